@@ -51,8 +51,10 @@ module _ {C D : Type 0} (honest : D → Type 0) (moment : D → ℕ) (by_crash :
       record {
         before = between old v.start events answered r v.idles;
         serves = runs-are honest moment by_crash seen earlier config entry at begun v.start new events answered (events_in (given turns)) (taken turns) start v.meets.fares;
-        stops = λ done rest split. stops-are honest moment by_crash seen earlier config entry at begun v.start new events answered (events_in (given done)) (events_in (given turns)) (taken done) start
-            (v.meets.each_turn done rest split);
+        stops = λ before turn after split.
+            let next = before ++ turn ∷ [] in
+            stops-are honest moment by_crash seen earlier config entry at begun v.start (v.meets.each_turn.by before) (v.meets.each_turn.by next) events answered
+            (events_in (given before)) (events_in (given next)) (taken next) start (v.meets.each_turn.each before turn after split);
       }
 
   -- what is known behind so many visits

@@ -89,10 +89,10 @@ run-ended P Q f (Err edge_fault.Output) old new bytes sent x = x
 run-ended P Q f (Err (edge_fault.Gateway why)) old new bytes sent x = x
 
 module _ {D : Type 0} (honest : D → Type 0) (moment : D → ℕ) (by_crash : D → ℕ → Files → Type 0) (failed : D → ℕ) where
-  pub cause-of : (r : Result ℕ EdgeFault) (old new : Kept D) → OnOk r ((old.fallen ≡ false) × (new.fallen ≡ false)) → IfErr r (λ e. Explains honest moment by_crash failed e old new)
-      → EndHasCause honest moment by_crash failed r old new
-  cause-of (Ok count) old new stands why = stands.1
-  cause-of (Err e) old new stands why = why
+  pub cause-of : (r : Result ℕ EdgeFault) (old new : Kept D) → OnOk r ((old.fallen ≡ false) × (new.fallen ≡ false)) → OnOk r (failed new.disk ≡ failed old.disk)
+      → IfErr r (λ e. Explains honest moment by_crash failed e old new) → EndHasCause honest moment by_crash failed r old new
+  cause-of (Ok count) old new stands none why = (stands.1, none)
+  cause-of (Err e) old new stands none why = why
 
   -- the gateway has fallen behind an end that tells something else
   pub ends-fallen : (end : Result ℕ EdgeFault) (gateway : Kept D) (r : Refusal) → IfErr end (λ e. ¬ IsOfGateway e) → gateway.fallen ≡ true → r ≡ refusal.Reopen → EndsService end gateway r

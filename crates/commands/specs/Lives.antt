@@ -1,6 +1,6 @@
 -- What an opening tells behind earlier lives, and clients that are served one after the other in the life of a gateway,
 -- as `gateway/specs/Lives` and `Living` define it.
-use Rattle.std.specs.Prelude.{◌≡◌, ◌≢◌, ⊤, ℕ, zero, suc, List, [], ◌++◌, Result}
+use Rattle.std.specs.Prelude.{◌≡◌, ◌≢◌, ⊤, ℕ, zero, suc, List, [], ◌∷◌, ◌++◌, Result}
 use Rattle.packet.specs.Config.{Config}
 use Rattle.disk_model.specs.Disk.{Files}
 use Rattle.durable.specs.Entering.{Durable}
@@ -48,11 +48,14 @@ module _ {C D : Type 0} (honest : D → Type 0) (moment : D → ℕ) (by_crash :
     -- So is one while the client is served, or after that; and unless the gateway has fallen, it rests again.
     pub serves : EdgeRuns honest moment by_crash seen config entry opened_at begun visit.start new
         events answered (events_in (given visit.meets.turns)) (taken visit.meets.turns)
-    -- Each answer counts as given out that the client had taken by the last turn before the stop.
-    pub stops : (done rest : List Turn) → (split : visit.meets.turns ≡ done ++ rest)
+    -- A stop since a turn began, and before the next one did: each answer counts as given out that the client had taken
+    -- behind the turn.
+    pub stops : (before : List Turn) (turn : Turn) (after : List Turn)
+        → visit.meets.turns ≡ before ++ turn ∷ after
         → EdgeStops honest moment by_crash seen config entry opened_at begun visit.start
-        (visit.meets.each_turn done rest split).now new events answered (events_in (given done))
-        (events_in (given visit.meets.turns)) (taken done)
+        (visit.meets.each_turn.by before) (visit.meets.each_turn.by (before ++ turn ∷ []))
+        events answered (events_in (given before)) (events_in (given (before ++ turn ∷ [])))
+        (taken (before ++ turn ∷ []))
 
   -- These events were taken in so many visits: of each client the first of those that it gave, one client behind the
   -- other.

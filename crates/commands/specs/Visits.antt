@@ -5,7 +5,7 @@ use Rattle.gateway.specs.Kept.{Kept}
 use Rattle.gateway.specs.Running.{IsWhy}
 use Rattle.gateway.specs.declared.fault.GatewayFault.{GatewayFault}
 use Rattle.gateway.specs.declared.fault.GatewayFault.TheVariants as gateway_fault
-use Rattle.socket_edge.specs.Running.{AnswersFirst, AtEachTurn, Explains, Fares, RunEnded, TurnsEnd, events_in}
+use Rattle.socket_edge.specs.Running.{AnswersFirst, AtEachTurn, Explains, Fares, NoneFailed, RunEnded, TurnsEnd, events_in}
 use Rattle.socket_edge.specs.Turns.{Turn, given, taken}
 use Rattle.socket_edge.specs.declared.fault.EdgeFault.{EdgeFault}
 use Rattle.socket_edge.specs.declared.fault.EdgeFault.TheVariants.{Gateway}
@@ -44,9 +44,10 @@ module _ {D : Type 0} (honest : D → Type 0) (moment : D → ℕ) (by_crash : D
     pub grown : old.fallen ≡ false → 1048576 < old.grown
     pub why : old.fallen ≡ false → IsWhy honest moment by_crash failed old new fault
 
-  -- After a stream that ended well the gateway stands; a fault that ended it has its cause.
+  -- In a stream that ended well no call of the disk has failed, and the gateway stands; a fault that ended one has its
+  -- cause.
   abbrev pub EndHasCause : Result ℕ EdgeFault → Kept D → Kept D → Type 0
-  EndHasCause (Ok count) old new = new.fallen ≡ false
+  EndHasCause (Ok count) old new = NoneFailed failed old new
   EndHasCause (Err fault) old new = Explains honest moment by_crash failed fault old new
 
   module _ {C : Type 0} (came : C → C → Type 0) (went : C → C → List Turn → Type 0)

@@ -21,7 +21,7 @@ use Rattle.frames.specs.Requests.{Cut, Bad, next}
 use Rattle.frames.specs.Framing.{EventsAndRest, Rest, Fault, with_first, whole_frames}
 use Rattle.frames.specs.Answers.{frame}
 use Rattle.socket_edge.specs.Progress.{Progress, AnsweredFirst}
-use Rattle.socket_edge.specs.Running.{Answered, Fares, LastTurn, events_in}
+use Rattle.socket_edge.specs.Running.{Answered, Explains, FallsByAFailure, Fares, LastTurn, events_in}
 use Rattle.socket_edge.specs.Turns.{Turn, AllPass}
 use Rattle.socket_edge.specs.Serving.{Closed, IsBad, GatewayRefuses, Offered, Reads, Served, SettledAndSent, end_of}
 use Rattle.frames.proofs.Frames.{framed_cut, framed_bad}
@@ -85,6 +85,9 @@ module _ {D : Type 0} (honest : D → Type 0) (moment : D → ℕ) (left : D →
   no-device : (mid : Kept D) (events : List Event) (b : List (ℕ × Answer)) (why : GatewayFault) → Stops honest moment left failed start mid events b why → mid.fallen ≡ false → why ≢ fault.Device
   no-device mid events b why s up is = true-false mid.fallen (s.is_why.fell.0 is) up
 
+  none-failed : (mid : Kept D) (events : List Event) (b : List (ℕ × Answer)) (why : GatewayFault) → Stops honest moment left failed start mid events b why → mid.fallen ≡ false → failed mid.disk ≡ failed start.disk
+  none-failed mid events b why s up = (s.stays (no-device mid events b why s up)).no_failure
+
   -- a fault, behind which what was held is handed out
   still-why : (mid now : Kept D) (events : List Event) (b c : List (ℕ × Answer)) (why : GatewayFault) → IsWhy honest moment left failed start mid why → why ≢ fault.Device
       → TookAll start.told mid.told events b → TookAll start.told now.told events c → now.generation ≡ mid.generation → now.fallen ≡ false → failed now.disk ≡ failed start.disk → IsWhy honest moment left failed start now why
@@ -121,6 +124,7 @@ module _ {D : Type 0} (honest : D → Type 0) (moment : D → ℕ) (left : D →
         split = split_more (events_in bytes) o.0 off.0 off.1 (events_in o.1) (events_then bytes o.1 o.0 o.2) off.2;
         ends = ended honest moment left seen failed reads earlier start now off.0 c after;
         is_why = still-why mid now off.0 b c why stops.is_why other before.ran.took after.ran.took same after.stands after.no_failure;
+        no_failure = λ stood. after.no_failure;
         none = λ held up. none;
       }
 
@@ -134,6 +138,7 @@ module _ {D : Type 0} (honest : D → Type 0) (moment : D → ℕ) (left : D →
         split = split_more (events_in bytes) events front back (events_in later) all split ∙ front_none front off.0 off.1 (back ++ events_in later) off.2;
         ends = off.3.ends;
         is_why = off.3.is_why;
+        no_failure = none-failed now (front ++ off.0) c why off.3;
         none = λ held up. absurd (true-false now.fallen (off.3.is_why.fell.0 (device held)) up);
       }
 
@@ -161,6 +166,7 @@ module _ {D : Type 0} (honest : D → Type 0) (moment : D → ℕ) (left : D →
         split = split_more (events_in bytes) o.0 off.0 off.1 (events_in o.1) (events_then bytes o.1 o.0 o.2) off.2;
         ends = off.3.ends;
         is_why = off.3.is_why;
+        no_failure = λ up. absurd (true-false mid.fallen down up);
         none = λ held up. absurd (true-false mid.fallen down up);
       }
 
@@ -198,6 +204,29 @@ module _ {D : Type 0} (honest : D → Type 0) (moment : D → ℕ) (left : D →
   came (Err Output) now bytes rest count out k = absurd k
   came (Err (Gateway why)) now bytes rest count out k = (k.front, k.back, k.split, k.ends, k.none)
 
+  -- the gateway has fallen by a failed call, or none has failed
+  stood-falls : (now : Kept D) (events : List Event) (out : List (ℕ × Answer)) → Up now events out → FallsByAFailure failed start now
+  stood-falls now events out s = record {
+    no_failure = λ up. s.no_failure;
+    device = λ down. absurd (true-false now.fallen down s.stands);
+    by_one = omega (arith, s.no_failure);
+  }
+
+  falls : (r : Result (Unit {0}) EdgeFault) (now : Kept D) (bytes rest : List ℕ) (count : ℕ) (out : List (ℕ × Answer)) → Closed honest moment left failed r bytes rest count start now out
+      → FallsByAFailure failed start now
+  falls (Ok done) now bytes rest count out k = stood-falls now k.0 out k.4.stands
+  falls (Err BadKind) now bytes rest count out k = stood-falls now k.events out k.settled.stands
+  falls (Err BadInterface) now bytes rest count out k = stood-falls now k.events out k.settled.stands
+  falls (Err TooLong) now bytes rest count out k = stood-falls now k.events out k.settled.stands
+  falls (Err Truncated) now bytes rest count out k = absurd k
+  falls (Err Input) now bytes rest count out k = absurd k
+  falls (Err Output) now bytes rest count out k = absurd k
+  falls (Err (Gateway why)) now bytes rest count out k = record {
+    no_failure = k.no_failure;
+    device = λ down. k.is_why.device (k.is_why.fell.1 down);
+    by_one = k.is_why.by_one;
+  }
+
   -- a beginning of the frames was sent
   pub sent-some : (r : Result (Unit {0}) EdgeFault) (now : Kept D) (bytes rest : List ℕ) (count : ℕ) (out : List (ℕ × Answer)) (sent lost : List ℕ) → Closed honest moment left failed r bytes rest count start now out
       → sent ++ lost ≡ flat_map frame out → (left_over : List ℕ) (others : List (ℕ × Answer)) → SettledAndSent honest moment left failed (Err Output) start now bytes left_over others sent
@@ -205,7 +234,7 @@ module _ {D : Type 0} (honest : D → Type 0) (moment : D → ℕ) (left : D →
       let is = came r now bytes rest count out k in (
         BeginsFrames-told start.told now.told (events_in bytes) is.0 is.1 out sent lost is.2 is.3.ran.took begins,
         fares-if honest moment left failed start now (events_in bytes) is.0 is.1 out sent lost is.3 is.2 begins is.4,
-        tt,
+        falls r now bytes rest count out k,
       )
 
   -- all of them were sent
@@ -217,14 +246,14 @@ module _ {D : Type 0} (honest : D → Type 0) (moment : D → ℕ) (left : D →
 
   pub sent-bad : (e : EdgeFault) (now : Kept D) (bytes rest : List ℕ) (count : ℕ) (out : List (ℕ × Answer)) → Closed honest moment left failed (Err e) bytes rest count start now out
       → (left_over : List ℕ) (others : List (ℕ × Answer)) → SettledAndSent honest moment left failed (Err e) start now bytes left_over others (flat_map frame out)
-  sent-bad BadKind now bytes rest count out k left_over others = (bad-answered header.BadKind now bytes rest out k, fares-all (Err BadKind) now bytes rest count out k, k.settled.stands.stands)
-  sent-bad BadInterface now bytes rest count out k left_over others = (bad-answered header.BadInterface now bytes rest out k, fares-all (Err BadInterface) now bytes rest count out k, k.settled.stands.stands)
-  sent-bad TooLong now bytes rest count out k left_over others = (bad-answered header.TooLong now bytes rest out k, fares-all (Err TooLong) now bytes rest count out k, k.settled.stands.stands)
+  sent-bad BadKind now bytes rest count out k left_over others = (bad-answered header.BadKind now bytes rest out k, fares-all (Err BadKind) now bytes rest count out k, (k.settled.stands.stands, k.settled.stands.no_failure))
+  sent-bad BadInterface now bytes rest count out k left_over others = (bad-answered header.BadInterface now bytes rest out k, fares-all (Err BadInterface) now bytes rest count out k, (k.settled.stands.stands, k.settled.stands.no_failure))
+  sent-bad TooLong now bytes rest count out k left_over others = (bad-answered header.TooLong now bytes rest out k, fares-all (Err TooLong) now bytes rest count out k, (k.settled.stands.stands, k.settled.stands.no_failure))
   sent-bad Truncated now bytes rest count out k left_over others = absurd k
   sent-bad Input now bytes rest count out k left_over others = absurd k
   sent-bad Output now bytes rest count out k left_over others = absurd k
   sent-bad (Gateway why) now bytes rest count out k left_over others =
-      (AnsweredFirst-told start.told now.told (events_in bytes) k.front k.back out k.split k.ends.ran.took, fares-all (Err (Gateway why)) now bytes rest count out k, k.is_why)
+      (AnsweredFirst-told start.told now.told (events_in bytes) k.front k.back out k.split k.ends.ran.took, fares-all (Err (Gateway why)) now bytes rest count out k, (k.is_why, k.no_failure))
 
   -- ---- the file is compacted
 
@@ -256,7 +285,7 @@ module _ {D : Type 0} (honest : D → Type 0) (moment : D → ℕ) (left : D →
   -- it couldn't be compacted
   pub not_compacted : (mid now : Kept D) (bytes rest : List ℕ) (count : ℕ) (out after : List (ℕ × Answer)) (sent : List ℕ) (why : GatewayFault) → SettledAndSent honest moment left failed (Ok count) start mid bytes rest out sent
       → BreaksOff honest moment left failed mid now [] out after why → after ≡ out → now.told.held ≡ []
-      → AnsweredFirst start.told now.told (events_in bytes) sent × Fares honest moment left start now (events_in bytes) sent × IsWhy honest moment left failed start now why
+      → AnsweredFirst start.told now.told (events_in bytes) sent × Fares honest moment left start now (events_in bytes) sent × Explains honest moment left failed (Gateway why) start now
   not_compacted mid now bytes rest count out after sent why a breaks same none =
       let off = breaks start a.0 a.4.stands in
       let front = a.0 ++ off.0 in
@@ -264,5 +293,5 @@ module _ {D : Type 0} (honest : D → Type 0) (moment : D → ℕ) (left : D →
       let ends : Ends honest moment left failed start now front out = subst (λ (l : List (ℕ × Answer)). Ends honest moment left failed start now front l) same off.3.ends in (
         subst (λ (l : List ℕ). AnsweredFirst start.told now.told (events_in bytes) l) (sym a.5) (AnsweredFirst-told start.told now.told (events_in bytes) front (off.1 ++ []) out split ends.ran.took),
         fares honest moment left failed start now (events_in bytes) front (off.1 ++ []) out sent [] ends split (append-nil sent ∙ a.5) (λ _. none),
-        off.3.is_why,
+        (off.3.is_why, none-failed now front after why off.3),
       )

@@ -9,5 +9,6 @@ pub mod Tending
 pub mod Loops
 pub mod Closing
 pub mod Runs
+pub mod Behind
 pub mod Stopping
 pub mod Lives

@@ -51,17 +51,17 @@ module _ {D : Type 0} (honest : D → Type 0) (moment : D → ℕ) (left : D →
 
   pub stops-are : EdgeStopsAreLives honest moment left seen
   unfolding replies
-  stops-are config entry at begun old new events given so_far read sent r by =
+  stops-are config entry at begun old now later events given so_far read sent r by =
       let k = by.since r.rests in
       record {
-        until = runs-are config entry at begun old by.now events given so_far sent r by.until;
+        until = runs-are config entry at begun old now events given so_far sent r by.until;
         front = k.front;
         back = k.back;
         split = k.split;
         judged = k.judged;
         are_judged = k.are_judged;
         reached = k.reached;
-        since = λ n le whole. stopped-first honest moment left seen config entry at begun events given old r by.now.disk new.disk k.front k.judged n k.are_judged le
+        since = λ n le whole. stopped-first honest moment left seen config entry at begun events given old r now.disk later.disk k.front k.judged n k.are_judged le
             (λ files since. ((k.since n le whole).each files since).2)
             (λ files since. (k.configured.each files since).2);
       }

@@ -195,21 +195,28 @@ module _ {D : Type 0} (honest : D → Type 0) (moment : D → ℕ) (left : D →
 
   -- why it ends, said of the whole run
   pub going-why : (a b c : Kept D) (given unanswered w : List ℕ) (n : ℕ) (e : EdgeFault) → Going a b given unanswered w n → Explains honest moment left failed e b c → Explains honest moment left failed e a c
-  going-why a b c given unanswered w n BadKind g x = x
-  going-why a b c given unanswered w n BadInterface g x = x
-  going-why a b c given unanswered w n TooLong g x = x
-  going-why a b c given unanswered w n Truncated g x = x
-  going-why a b c given unanswered w n Input g x = x
-  going-why a b c given unanswered w n Output g x = tt
-  going-why a b c given unanswered w n (Gateway fault) g x = record {
-    stood = x.stood;
-    made_room = x.made_room;
-    numbers_out = x.numbers_out;
-    fell = x.fell;
-    device = λ d. subst (λ (k : ℕ). Grew k (failed c.disk)) g.no_failure (x.device d);
+  going-why a b c given unanswered w n BadKind g x = (x.0, x.1 ∙ g.no_failure)
+  going-why a b c given unanswered w n BadInterface g x = (x.0, x.1 ∙ g.no_failure)
+  going-why a b c given unanswered w n TooLong g x = (x.0, x.1 ∙ g.no_failure)
+  going-why a b c given unanswered w n Truncated g x = (x.0, x.1 ∙ g.no_failure)
+  going-why a b c given unanswered w n Input g x = (x.0, x.1 ∙ g.no_failure)
+  going-why a b c given unanswered w n Output g x = record {
+    no_failure = λ up. x.no_failure up ∙ g.no_failure;
+    device = λ down. subst (λ (k : ℕ). Grew k (failed c.disk)) g.no_failure (x.device down);
     by_one = omega (arith, x.by_one, g.no_failure);
-    generations = x.generations;
   }
+  going-why a b c given unanswered w n (Gateway fault) g x = (
+    record {
+      stood = x.0.stood;
+      made_room = x.0.made_room;
+      numbers_out = x.0.numbers_out;
+      fell = x.0.fell;
+      device = λ d. subst (λ (k : ℕ). Grew k (failed c.disk)) g.no_failure (x.0.device d);
+      by_one = omega (arith, x.0.by_one, g.no_failure);
+      generations = x.0.generations;
+    },
+    λ up. x.1 up ∙ g.no_failure,
+  )
 
   -- a gateway that stood isn't to be opened again
   pub not-reopen : (a c : Kept D) (e : EdgeFault) → Explains honest moment left failed e a c → e ≢ Gateway fault.Reopen
@@ -219,7 +226,7 @@ module _ {D : Type 0} (honest : D → Type 0) (moment : D → ℕ) (left : D →
   not-reopen a c Truncated x = λ is. absurd cc
   not-reopen a c Input x = λ is. absurd cc
   not-reopen a c Output x = λ is. absurd cc
-  not-reopen a c (Gateway why) x = λ is. let same : why ≡ fault.Reopen = cc in x.stood same
+  not-reopen a c (Gateway why) x = λ is. let same : why ≡ fault.Reopen = cc in x.0.stood same
 
   -- room was made
   pub not-full : (a c : Kept D) (e : EdgeFault) → Explains honest moment left failed e a c → (e ≢ Gateway fault.HeldFull) × (e ≢ Gateway fault.Full)
@@ -230,7 +237,7 @@ module _ {D : Type 0} (honest : D → Type 0) (moment : D → ℕ) (left : D →
   not-full a c Input x = ((λ is. absurd cc), (λ is. absurd cc))
   not-full a c Output x = ((λ is. absurd cc), (λ is. absurd cc))
   not-full a c (Gateway why) x =
-      ((λ is. let same : why ≡ fault.HeldFull = cc in x.made_room.0 same), (λ is. let same : why ≡ fault.Full = cc in x.made_room.1 same))
+      ((λ is. let same : why ≡ fault.HeldFull = cc in x.0.made_room.0 same), (λ is. let same : why ≡ fault.Full = cc in x.0.made_room.1 same))
 
   -- it had fallen before: nothing is done
   pub fallen-fares : (start : Kept D) (events : List Event) → start.fallen ≡ true → Fares honest moment left start start events []

@@ -1,5 +1,5 @@
 -- A run that is stopped in its midst.
-use Rattle.std.proofs.Common.{◌≡◌, ◌⊎◌, inl, inr, ⊎_elim, ℕ, ◌+◌, ◌-◌, ◌≤◌, List, [], ◌∷◌, ◌++◌, false, length, take, refl, sym, ap, ◌∙◌, subst, arith, append_assoc, length-append, Ok}
+use Rattle.std.proofs.Common.{◌≡◌, inl, inr, ⊎_elim, ℕ, ◌+◌, ◌-◌, ◌≤◌, List, [], ◌∷◌, ◌++◌, false, length, take, refl, sym, ap, ◌∙◌, subst, arith, append_assoc, length-append, Ok}
 use Rattle.std.specs.List.{flat_map}
 use Rattle.std.proofs.lemmas.List.{append-nil, nil_from_length, take-append-le}
 use Rattle.std.proofs.lemmas.List.Concat.{flat_map-append}
@@ -22,28 +22,16 @@ use Rattle.frames.specs.Framing.{EventsAndRest}
 use Rattle.socket_edge.specs.Joined.{given_then, taken_then}
 use Rattle.socket_edge.specs.Progress.{replies, Progress}
 use Rattle.socket_edge.specs.Running.{AtEachTurn, MayGoOn, ComesBy, Fares, Preserves, events_in}
-use Rattle.socket_edge.specs.Serving.{AsksFirst, AsksOnce, NeverAsks, SettledAndSent}
+use Rattle.socket_edge.specs.Serving.{AsksFirst, AsksOnce, ComesByOne, NeverAsks, SettledAndSent}
 use Rattle.socket_edge.specs.Turns.{Turn, Gave, ReadFailed, Took, WriteFailed, given, taken}
+use Rattle.socket_edge.proofs.Behind.{at_behind, at_last, at_mid, at_turn, by_at, by_both, by_first, by_next, by_then}
 use Rattle.socket_edge.proofs.Answers.{all-once, Progress-told, Reached-then, all_sent, last_of, reached-told, replies-append}
 use Rattle.socket_edge.proofs.Closing.{events_cut, framed_then_cut}
 use Rattle.socket_edge.proofs.Lasting.{fares, le-or-lt, not-longer, replies-length, safe-behind, safe-fewer}
 use Rattle.socket_edge.proofs.Runs.{Going, Served-answered, framed_more, going-ends}
-use Rattle.socket_edge.proofs.Talks.{Talked, first-nil, first-then, never_given}
+use Rattle.socket_edge.proofs.Talks.{Talked, first-nil, first-then, never_given, turn_of}
 
 -- ---- turns
-
--- A beginning of the one and then the other is a beginning of the one, or all of it and more.
-front_of : (xs ys before after : List Turn) → xs ++ ys ≡ before ++ after
-    → ((rest : List Turn) × (xs ≡ before ++ rest)) ⊎ ((t : Turn) × (middle : List Turn) × (before ≡ xs ++ (t ∷ middle)) × (ys ≡ (t ∷ middle) ++ after))
-front_of xs ys [] after e = inl (xs, refl)
-front_of [] ys (b ∷ before) after e = inr (b, before, refl, e)
-front_of (x ∷ xs) ys (b ∷ before) after e =
-    let head : x ≡ b = cc in
-    let tail : xs ++ ys ≡ before ++ after = cc in
-    elim (front_of xs ys before after tail) [
-      | inl r ↦ inl (r.0, ap (λ (h : Turn). h ∷ xs) head ∙ ap (λ (ts : List Turn). b ∷ ts) r.1)
-      | inr m ↦ inr (m.0, m.1, ap (λ (h : Turn). h ∷ before) (sym head) ∙ ap (λ (ts : List Turn). x ∷ ts) m.2, m.3)
-    ]
 
 never_front : (turns after : List Turn) → NeverAsks (turns ++ after) → NeverAsks turns
 never_front [] after p = tt
@@ -58,6 +46,13 @@ first_given (Gave bytes) middle after asks = ap (λ (x : List ℕ). bytes ++ x) 
 first_given ReadFailed middle after asks = never_given middle (never_front middle after asks) ∙ sym (never_given (middle ++ after) asks)
 first_given (Took bytes) middle after asks = absurd asks
 first_given WriteFailed middle after asks = absurd asks
+
+-- by the first of them it takes none
+first_takes : (t : Turn) (after : List Turn) → AsksFirst (t ∷ after) → taken (t ∷ []) ≡ []
+first_takes (Gave bytes) after asks = refl
+first_takes ReadFailed after asks = refl
+first_takes (Took bytes) after asks = absurd asks
+first_takes WriteFailed after asks = absurd asks
 
 module _ {D : Type 0} (honest : D → Type 0) (moment : D → ℕ) (left : D → ℕ → Files → Type 0)
     (earlier : (disk : D) (s t : ℕ) (files : Files) → s ≤ t → left disk t files → left disk s files) where
@@ -85,8 +80,8 @@ module _ {D : Type 0} (honest : D → Type 0) (moment : D → ℕ) (left : D →
         };
   }
 
-  preserves-fewer : (a b x : Kept D) (events : List Event) (short more : List ℕ) → Preserves honest moment left a b x events (short ++ more) → Preserves honest moment left a b x events short
-  preserves-fewer a b x events short more k = record {
+  preserves-fewer : (a x b : Kept D) (events : List Event) (short more : List ℕ) → Preserves honest moment left a x b events (short ++ more) → Preserves honest moment left a x b events short
+  preserves-fewer a x b events short more k = record {
     front = k.front;
     back = k.back;
     split = k.split;
@@ -97,17 +92,15 @@ module _ {D : Type 0} (honest : D → Type 0) (moment : D → ℕ) (left : D →
     configured = k.configured;
   }
 
-  by-fewer : (a b : Kept D) (so_far events : List Event) (short more : List ℕ) → ComesBy honest moment left a b so_far events (short ++ more) → ComesBy honest moment left a b so_far events short
-  by-fewer a b so_far events short more by = record {
-    now = by.now;
-    until = fares-fewer a by.now so_far short more by.until;
-    since = λ ready. preserves-fewer a b by.now events short more (by.since ready);
+  by-fewer : (a x b : Kept D) (so_far events : List Event) (short more : List ℕ) → ComesBy honest moment left a x b so_far events (short ++ more) → ComesBy honest moment left a x b so_far events short
+  by-fewer a x b so_far events short more by = record {
+    until = fares-fewer a x so_far short more by.until;
+    since = λ ready. preserves-fewer a x b events short more (by.since ready);
   }
 
   -- at the end
-  pub by-end : (a b : Kept D) (events : List Event) (sent : List ℕ) → Fares honest moment left a b events sent → ComesBy honest moment left a b events events sent
+  by-end : (a b : Kept D) (events : List Event) (sent : List ℕ) → Fares honest moment left a b events sent → ComesBy honest moment left a b b events events sent
   by-end a b events sent f = record {
-    now = b;
     until = f;
     since = λ ready.
         let o = f.outlives ready in
@@ -124,12 +117,35 @@ module _ {D : Type 0} (honest : D → Type 0) (moment : D → ℕ) (left : D →
         };
   }
 
-  by-same : (a b : Kept D) (one other all_one all_other : List Event) (s t : List ℕ) → one ≡ other → all_one ≡ all_other → s ≡ t
-      → ComesBy honest moment left a b one all_one s → ComesBy honest moment left a b other all_other t
-  by-same a b one other all_one all_other s t same all sent by =
-      subst (λ (x : List ℕ). ComesBy honest moment left a b other all_other x) sent
-      (subst (λ (x : List Event). ComesBy honest moment left a b other x s) all
-      (subst (λ (x : List Event). ComesBy honest moment left a b x all_one s) same by))
+  pub by-one-end : (a b : Kept D) (events : List Event) (sent : List ℕ) → Fares honest moment left a b events sent → ComesByOne honest moment left a b events sent
+  by-one-end a b events sent f = record { now = b; comes = by-end a b events sent f }
+
+  -- since the entry
+  since-entry : (a b : Kept D) (events : List Event) (sent : List ℕ) → Fares honest moment left a b events sent → IsAtRest honest a → Preserves honest moment left a a b events []
+  since-entry a b events sent f ready =
+      let o = f.outlives ready in
+      let all = replies a.told o.judged in
+      let size : length all ≡ length o.front = replies-length a.told o.judged ∙ AreJudged-length a.told.config o.front o.judged o.are_judged in
+      record {
+        front = o.front;
+        back = o.back;
+        split = o.split;
+        judged = o.judged;
+        are_judged = o.are_judged;
+        reached = o.reached;
+        since = λ n fits whole.
+            let few : n ≤ 0 = not-longer [] all n (omega (arith, fits, size)) whole in
+            let none : 0 ≡ n = omega (arith, few) in
+            subst (λ (k : ℕ). LeavesOnly moment left a.disk b.disk (IsSafe a.told.config a.told.state o.front k)) none o.any_moment;
+        configured = f.configured ready.is_honest ready.stands;
+      }
+
+  by-same : (a x b : Kept D) (one other all_one all_other : List Event) (s t : List ℕ) → one ≡ other → all_one ≡ all_other → s ≡ t
+      → ComesBy honest moment left a x b one all_one s → ComesBy honest moment left a x b other all_other t
+  by-same a x b one other all_one all_other s t same all sent by =
+      subst (λ (l : List ℕ). ComesBy honest moment left a x b other all_other l) sent
+      (subst (λ (es : List Event). ComesBy honest moment left a x b other es s) all
+      (subst (λ (es : List Event). ComesBy honest moment left a x b es all_one s) same by))
 
   -- ---- one after the other
 
@@ -147,7 +163,7 @@ module _ {D : Type 0} (honest : D → Type 0) (moment : D → ℕ) (left : D →
     many = replies-length a.told p.took.judged ∙ AreJudged-length a.told.config es p.took.judged p.took.are_judged
 
     -- as the events of the first part are judged
-    as-taken : EventsAreJudgedOnce → (short : List ℕ) → Preserves honest moment left a b x es short → (n : ℕ) → n ≤ length es → length (flat_map frame (take n (replies a.told p.took.judged))) ≤ length short
+    as-taken : EventsAreJudgedOnce → (short : List ℕ) → Preserves honest moment left a x b es short → (n : ℕ) → n ≤ length es → length (flat_map frame (take n (replies a.told p.took.judged))) ≤ length short
         → LeavesOnly moment left x.disk b.disk (IsSafe a.told.config a.told.state es n)
     as-taken once short k n fits whole =
         let size : length k.judged ≡ length k.front = AreJudged-length a.told.config k.front k.judged k.are_judged in
@@ -159,8 +175,8 @@ module _ {D : Type 0} (honest : D → Type 0) (moment : D → ℕ) (left : D →
         (k.since n (omega (arith, fits, ap length same)) (subst (λ (js : List Judged). length (flat_map frame (take n (replies a.told js))) ≤ length short) one whole))
 
     -- what the first part preserves since then, the second doesn't lose
-    pub preserves-on : EventsAreJudgedOnce → (short sent : List ℕ) → length short ≤ length w → Preserves honest moment left a b x es short → Fares honest moment left b c fs sent
-        → Preserves honest moment left a c x (es ++ fs) short
+    preserves-on : EventsAreJudgedOnce → (short sent : List ℕ) → length short ≤ length w → Preserves honest moment left a x b es short → Fares honest moment left b c fs sent
+        → Preserves honest moment left a x c (es ++ fs) short
     preserves-on once short sent shorter k f =
         let o = f.outlives (record { stands = stands; is_honest = there; none = none ready.none }) in
         let js = p.took.judged in
@@ -190,7 +206,7 @@ module _ {D : Type 0} (honest : D → Type 0) (moment : D → ℕ) (left : D →
         }
 
     -- what the second part preserves, behind all of the first
-    pub preserves-behind : (short : List ℕ) → Preserves honest moment left b c x fs short → Preserves honest moment left a c x (es ++ fs) (w ++ short)
+    preserves-behind : (short : List ℕ) → Preserves honest moment left b x c fs short → Preserves honest moment left a x c (es ++ fs) (w ++ short)
     preserves-behind short k =
         let js = p.took.judged in
         let first = replies a.told js in
@@ -242,8 +258,7 @@ module _ {D : Type 0} (honest : D → Type 0) (moment : D → ℕ) (left : D →
 
     -- what was answered was sent, and then the file was compacted
     pub compacted-by : EventsAreJudgedOnce → (start mid now : Kept D) (bytes rest : List ℕ) (count : ℕ) (out : List (ℕ × Answer)) (sent : List ℕ) → SettledAndSent honest moment left failed (Ok count) start mid bytes rest out sent
-        → Fares honest moment left mid now [] [] → ComesBy honest moment left start now (events_in bytes) (events_in bytes) sent
-    unfolding by-end
+        → Fares honest moment left mid now [] [] → ComesByOne honest moment left start now (events_in bytes) sent
     compacted-by once start mid now bytes rest count out sent a f =
         let es = a.0 in
         let s = a.4.stands in
@@ -253,86 +268,157 @@ module _ {D : Type 0} (honest : D → Type 0) (moment : D → ℕ) (left : D →
         let p : Progress start.told mid.told es [] sent = subst (λ (l : List ℕ). Progress start.told mid.told es [] l) (sym a.5) (Progress-told start.told mid.told es out s.ran.took) in
         record {
           now = mid;
-          until = until;
-          since = λ ready.
-              let end = by-end start mid es sent (subst (λ (gs : List Event). Fares honest moment left start mid gs sent) all until) in
-              let kept = end.since ready in
-              subst (λ (gs : List Event). Preserves honest moment left start now mid gs sent) (append-nil es ∙ sym all)
-              (preserves-on start mid now mid es [] sent p (λ _. a.4.none) (s.ran.stays_honest s.stands ready.is_honest) s.stands ready once sent [] (omega arith) kept f);
+          comes = record {
+            until = until;
+            since = λ ready.
+                let end = by-end start mid es sent (subst (λ (gs : List Event). Fares honest moment left start mid gs sent) all until) in
+                let kept = end.since ready in
+                subst (λ (gs : List Event). Preserves honest moment left start mid now gs sent) (append-nil es ∙ sym all)
+                (preserves-on start mid now mid es [] sent p (λ _. a.4.none) (s.ran.stays_honest s.stands ready.is_honest) s.stands ready once sent [] (omega arith) kept f);
+          };
         }
 
   -- ---- a run
 
   module _ {P : Type 0} (went : P → P → List Turn → Type 0) where
-    -- how far it has come with its peer, by turns of which this is so, and what a crash leaves that comes after some of
-    -- them
+    -- how far it has come with its peer, by turns of which this is so, and what a crash leaves that comes between them
     pub record Walked (so : List Turn → Type 0) (start now : Kept D) (old new : P) (got sent : List ℕ) : Type 0 where
       pub talked : Talked went start.told old new got sent
       pub stops : AtEachTurn honest moment left start now talked.turns
+      pub fares : Fares honest moment left start now (events_in got) sent
       pub are : so talked.turns
 
-    at_no_turn : (start now : Kept D) → ComesBy honest moment left start now (events_in []) (events_in []) [] → (before after : List Turn) → [] ≡ before ++ after
-        → ComesBy honest moment left start now (events_in (given before)) (events_in []) (taken before)
-    at_no_turn start now by [] after e = by
-    at_no_turn start now by (t ∷ before) after e = absurd cc
+    no_turn : (before after : List Turn) (t : Turn) → [] ≡ before ++ t ∷ after → ⊥
+    no_turn [] after t e = cc
+    no_turn (b ∷ before) after t e = cc
 
-    pub stops-nil : (start now : Kept D) → Fares honest moment left start now (events_in []) [] → AtEachTurn honest moment left start now []
-    stops-nil start now f = at_no_turn start now (by-end start now (events_in []) [] f)
+    pub stops-nil : (start : Kept D) → AtEachTurn honest moment left start start []
+    stops-nil start = record {
+      by = λ (before : List Turn). start;
+      first = refl;
+      last = refl;
+      each = λ before t after e. absurd (no_turn before after t e);
+    }
 
     pub walked-first : (still : (peer : P) → went peer peer []) (start : Kept D) (a : P) → Fares honest moment left start start (events_in []) [] → (so : List Turn → Type 0) → so []
         → Walked so start start a a [] []
-    walked-first still start a f so is = record { talked = record { turns = []; goes = still a; first = first-nil start.told; gives = refl; takes = refl }; stops = stops-nil start start f; are = is }
+    walked-first still start a f so is = record {
+      talked = record { turns = []; goes = still a; first = first-nil start.told; gives = refl; takes = refl };
+      stops = stops-nil start;
+      fares = f;
+      are = is;
+    }
 
-    module _ (failed : D → ℕ) (further : (a b c : P) (turns more : List Turn) → went a b turns → went b c more → went a c (turns ++ more)) (once : EventsAreJudgedOnce)
+    module _ (failed : D → ℕ) (further : (a b c : P) (turns more : List Turn) → went a b turns → went b c more → went a c (turns ++ more))
         (start b c : Kept D) (p q r : P) (x y got sent unanswered : List ℕ) (n : ℕ) (so : List Turn → Type 0) (w : Walked so start b p q x y) (g : Going honest moment left failed earlier start b x unanswered y n)
-        (f : Fares honest moment left b c (events_in (unanswered ++ got)) sent) (by : ComesBy honest moment left b c (events_in (unanswered ++ got)) (events_in (unanswered ++ got)) sent) (a : AsksOnce went q r got sent) where
+        (f : Fares honest moment left b c (events_in (unanswered ++ got)) sent) (by : ComesByOne honest moment left b c (events_in (unanswered ++ got)) sent) (a : AsksOnce went q r got sent) (idle_is : a.turns ≡ [] → c ≡ b) where
+      abbrev ts : List Turn
+      ts = w.talked.turns
+
+      abbrev fs : List Event
+      fs = events_in (unanswered ++ got)
+
+      abbrev mid : Kept D
+      mid = by.now
+
+      abbrev exchange_by : List Turn → Kept D
+      exchange_by before = at_turn b mid c a.turns before
+
+      abbrev all_by : List Turn → Kept D
+      all_by before = by_both ts w.stops.by (at_turn b mid c a.turns) before
+
       rested : IsAtRest honest start → IsAtRest honest b
       rested ready = record { stands = g.stands; is_honest = g.stays_honest ready.is_honest; none = g.served.none ready.none }
 
-      all_given : events_in (given (w.talked.turns ++ a.turns)) ≡ g.served.events ++ events_in (unanswered ++ got)
-      all_given = ap (λ (bytes : List ℕ). events_in bytes)
-          (given_then w.talked.turns a.turns ∙ ap (λ (bytes : List ℕ). bytes ++ given a.turns) w.talked.gives ∙ ap (λ (bytes : List ℕ). x ++ bytes) a.gives)
-          ∙ ap (λ (e : EventsAndRest). e.events) (framed_more x unanswered got g.served.events g.served.reads)
+      together : events_in (x ++ got) ≡ g.served.events ++ fs
+      together = ap (λ (e : EventsAndRest). e.events) (framed_more x unanswered got g.served.events g.served.reads)
 
-      -- stopped after some of the earlier turns
-      then-earlier : (before rest : List Turn) → w.talked.turns ≡ before ++ rest
-          → ComesBy honest moment left start c (events_in (given before)) (events_in (given (w.talked.turns ++ a.turns))) (taken before)
-      then-earlier before rest e =
-          let was = w.stops before rest e in
-          let same : events_in (given w.talked.turns) ≡ g.served.events = ap (λ (bytes : List ℕ). events_in bytes) w.talked.gives ∙ events_cut x unanswered g.served.events g.served.reads g.served.cut in
-          let shorter : length (taken before) ≤ length y =
-          omega (arith, ap length w.talked.takes, ap (λ (ts : List Turn). length (taken ts)) e, ap length (taken_then before rest), length-append (taken before) (taken rest)) in
-          record {
-            now = was.now;
-            until = was.until;
-            since = λ ready.
-                subst (λ (es : List Event). Preserves honest moment left start c was.now es (taken before)) (sym all_given)
-                (preserves-on start b c was.now g.served.events (events_in (unanswered ++ got)) y g.served.progress g.served.none (g.stays_honest ready.is_honest) g.stands ready once (taken before) sent shorter
-                (subst (λ (es : List Event). Preserves honest moment left start b was.now es (taken before)) same (was.since ready)) f);
-          }
+      given_are : (more : List Turn) → given more ≡ got → given (ts ++ more) ≡ x ++ got
+      given_are more gave = given_then ts more ∙ ap (λ (bytes : List ℕ). bytes ++ given more) w.talked.gives ∙ ap (λ (bytes : List ℕ). x ++ bytes) gave
 
-      -- after some of the later ones
-      then-later : (before after : List Turn) (t : Turn) (middle : List Turn) → before ≡ w.talked.turns ++ (t ∷ middle) → a.turns ≡ (t ∷ middle) ++ after
-          → ComesBy honest moment left start c (events_in (given before)) (events_in (given (w.talked.turns ++ a.turns))) (taken before)
-      then-later before after t middle is e =
-          let front : List Turn = t ∷ middle in
-          let all_taken : sent ≡ taken front ++ taken after = sym a.takes ∙ ap taken e ∙ taken_then front after in
-          let there = by-fewer b c (events_in (unanswered ++ got)) (events_in (unanswered ++ got)) (taken front) (taken after)
-          (subst (λ (s : List ℕ). ComesBy honest moment left b c (events_in (unanswered ++ got)) (events_in (unanswered ++ got)) s) all_taken by) in
-          let gave : given front ≡ got = first_given t middle after (subst AsksFirst e a.asks) ∙ ap given (sym e) ∙ a.gives in
-          let given_are : given before ≡ x ++ got =
-          ap given is ∙ given_then w.talked.turns front ∙ ap (λ (bytes : List ℕ). bytes ++ given front) w.talked.gives ∙ ap (λ (bytes : List ℕ). x ++ bytes) gave in
-          let taken_are : taken before ≡ y ++ taken front = ap taken is ∙ taken_then w.talked.turns front ∙ ap (λ (bytes : List ℕ). bytes ++ taken front) w.talked.takes in
-          by-same start c (events_in (x ++ got)) (events_in (given before)) (g.served.events ++ events_in (unanswered ++ got)) (events_in (given (w.talked.turns ++ a.turns))) (y ++ taken front) (taken before)
-          (ap (λ (bytes : List ℕ). events_in bytes) (sym given_are)) (sym all_given) (sym taken_are)
-          (record {
-            now = there.now;
-            until = going-ends honest moment left failed earlier start b there.now x unanswered got y (taken front) n g there.until;
-            since = λ ready.
-                preserves-behind start b c there.now g.served.events (events_in (unanswered ++ got)) y g.served.progress g.served.none (g.stays_honest ready.is_honest) g.stands ready (taken front) (there.since (rested ready));
-          })
+      taken_are : (more : List Turn) → taken (ts ++ more) ≡ y ++ taken more
+      taken_are more = taken_then ts more ∙ ap (λ (bytes : List ℕ). bytes ++ taken more) w.talked.takes
 
-      pub walked-then : (then : List Turn → Type 0) → then (w.talked.turns ++ a.turns) → Walked then start c p r (x ++ got) (y ++ sent)
+      gave_then : (t : Turn) (middle after : List Turn) → a.turns ≡ (t ∷ middle) ++ after → given (t ∷ middle) ≡ got
+      gave_then t middle after e = first_given t middle after (subst AsksFirst e a.asks) ∙ ap given (sym e) ∙ a.gives
+
+      -- what comes behind all of the earlier turns
+      later-preserves : (k m : Kept D) (short : List ℕ) → IsAtRest honest start → Preserves honest moment left b k m fs short → Preserves honest moment left start k m (events_in (x ++ got)) (y ++ short)
+      later-preserves k m short ready is =
+          subst (λ (es : List Event). Preserves honest moment left start k m es (y ++ short)) (sym together)
+          (preserves-behind start b m k g.served.events fs y g.served.progress g.served.none (g.stays_honest ready.is_honest) g.stands ready short is)
+
+      -- at the read
+      at-read : (k : Kept D) → Fares honest moment left b k fs sent → ComesBy honest moment left start b k (events_in x) (events_in (x ++ got)) (y ++ [])
+      at-read k fares_k = record {
+        until = subst (λ (l : List ℕ). Fares honest moment left start b (events_in x) l) (sym (append-nil y)) w.fares;
+        since = λ ready. later-preserves b k [] ready (since-entry b k fs sent fares_k (rested ready));
+      }
+
+      -- at a write
+      at-write : (front after : List Turn) → a.turns ≡ front ++ after → ComesBy honest moment left b mid c fs fs (taken front)
+      at-write front after e =
+          by-fewer b mid c fs fs (taken front) (taken after)
+          (subst (λ (s : List ℕ). ComesBy honest moment left b mid c fs fs s) (sym a.takes ∙ ap taken e ∙ taken_then front after) by.comes)
+
+      until-write : (front after : List Turn) → a.turns ≡ front ++ after → Fares honest moment left start mid (events_in (x ++ got)) (y ++ taken front)
+      until-write front after e = going-ends honest moment left failed earlier start b mid x unanswered got y (taken front) n g (at-write front after e).until
+
+      by-write : (front after : List Turn) → a.turns ≡ front ++ after → ComesBy honest moment left start mid c (events_in (x ++ got)) (events_in (x ++ got)) (y ++ taken front)
+      by-write front after e = record {
+        until = until-write front after e;
+        since = λ ready. later-preserves mid c (taken front) ready ((at-write front after e).since (rested ready));
+      }
+
+      exchange : (middle : List Turn) (t : Turn) (after : List Turn) → a.turns ≡ middle ++ t ∷ after
+          → ComesBy honest moment left start (exchange_by middle) (exchange_by (middle ++ t ∷ [])) (events_in (given (ts ++ middle))) (events_in (given (ts ++ (middle ++ t ∷ [])))) (taken (ts ++ (middle ++ t ∷ [])))
+      exchange [] t after e =
+          let before_is : given (ts ++ []) ≡ x = ap given (append-nil ts) ∙ w.talked.gives in
+          let given_is : given (ts ++ t ∷ []) ≡ x ++ got = given_are (t ∷ []) (gave_then t [] after e) in
+          let taken_is : taken (ts ++ t ∷ []) ≡ y ++ [] = taken_are (t ∷ []) ∙ ap (λ (l : List ℕ). y ++ l) (first_takes t after (subst AsksFirst e a.asks)) in
+          let comes : (k : Kept D) → Fares honest moment left b k fs sent → ComesBy honest moment left start b k (events_in (given (ts ++ []))) (events_in (given (ts ++ t ∷ []))) (taken (ts ++ t ∷ [])) =
+          λ k fares_k. by-same start b k (events_in x) (events_in (given (ts ++ []))) (events_in (x ++ got)) (events_in (given (ts ++ t ∷ []))) (y ++ []) (taken (ts ++ t ∷ []))
+          (ap (λ (l : List ℕ). events_in l) (sym before_is)) (ap (λ (l : List ℕ). events_in l) (sym given_is)) (sym taken_is) (at-read k fares_k) in
+          at_behind b mid c a.turns [] after t
+          (λ (k : Kept D). ComesBy honest moment left start b k (events_in (given (ts ++ []))) (events_in (given (ts ++ t ∷ []))) (taken (ts ++ t ∷ [])))
+          e (comes mid by.comes.until) (comes c f)
+      exchange (m ∷ middle) t after e =
+          let front : List Turn = (m ∷ middle) ++ t ∷ [] in
+          let all : a.turns ≡ front ++ after = e ∙ sym (append_assoc (m ∷ middle) (t ∷ []) after) in
+          let before_is : given (ts ++ (m ∷ middle)) ≡ x ++ got = given_are (m ∷ middle) (gave_then m middle (t ∷ after) e) in
+          let given_is : given (ts ++ front) ≡ x ++ got = given_are front (gave_then m (middle ++ t ∷ []) after all) in
+          let taken_is : taken (ts ++ front) ≡ y ++ taken front = taken_are front in
+          let comes : (k : Kept D) → ComesBy honest moment left start mid k (events_in (x ++ got)) (events_in (x ++ got)) (y ++ taken front)
+          → ComesBy honest moment left start mid k (events_in (given (ts ++ (m ∷ middle)))) (events_in (given (ts ++ front))) (taken (ts ++ front)) =
+          λ k is. by-same start mid k (events_in (x ++ got)) (events_in (given (ts ++ (m ∷ middle)))) (events_in (x ++ got)) (events_in (given (ts ++ front))) (y ++ taken front) (taken (ts ++ front))
+          (ap (λ (l : List ℕ). events_in l) (sym before_is)) (ap (λ (l : List ℕ). events_in l) (sym given_is)) (sym taken_is) is in
+          subst (λ (k : Kept D). ComesBy honest moment left start k (exchange_by front) (events_in (given (ts ++ (m ∷ middle)))) (events_in (given (ts ++ front))) (taken (ts ++ front)))
+          (sym (at_mid b mid c a.turns middle after m t e))
+          (at_behind b mid c a.turns (m ∷ middle) after t
+          (λ (k : Kept D). ComesBy honest moment left start mid k (events_in (given (ts ++ (m ∷ middle)))) (events_in (given (ts ++ front))) (taken (ts ++ front)))
+          e (comes mid (by-end start mid (events_in (x ++ got)) (y ++ taken front) (until-write front after all))) (comes c (by-write front after all)))
+
+      -- one of the earlier turns
+      then-earlier : (before rest : List Turn) (t : Turn) → ts ≡ before ++ t ∷ rest
+          → ComesBy honest moment left start (all_by before) (all_by (before ++ t ∷ [])) (events_in (given before)) (events_in (given (before ++ t ∷ []))) (taken (before ++ t ∷ []))
+      then-earlier before rest t e =
+          let next = before ++ t ∷ [] in
+          subst (λ (k : Kept D). ComesBy honest moment left start k (all_by next) (events_in (given before)) (events_in (given next)) (taken next)) (sym (by_at ts before rest t w.stops.by (at_turn b mid c a.turns) e))
+          (subst (λ (k : Kept D). ComesBy honest moment left start (w.stops.by before) k (events_in (given before)) (events_in (given next)) (taken next)) (sym (by_next ts before rest t w.stops.by (at_turn b mid c a.turns) e w.stops.last))
+          (w.stops.each before t rest e))
+
+      -- one of the later ones
+      then-later : (before middle after : List Turn) (t : Turn) → before ≡ ts ++ middle → a.turns ≡ middle ++ t ∷ after
+          → ComesBy honest moment left start (all_by before) (all_by (before ++ t ∷ [])) (events_in (given before)) (events_in (given (before ++ t ∷ []))) (taken (before ++ t ∷ []))
+      then-later before middle after t is e =
+          let next = middle ++ t ∷ [] in
+          subst (λ (bs : List Turn). ComesBy honest moment left start (all_by bs) (all_by (bs ++ t ∷ [])) (events_in (given bs)) (events_in (given (bs ++ t ∷ []))) (taken (bs ++ t ∷ []))) (sym is)
+          (subst (λ (ns : List Turn). ComesBy honest moment left start (all_by (ts ++ middle)) (all_by ns) (events_in (given (ts ++ middle))) (events_in (given ns)) (taken ns)) (sym (append_assoc ts middle (t ∷ [])))
+          (subst (λ (k : Kept D). ComesBy honest moment left start k (all_by (ts ++ next)) (events_in (given (ts ++ middle))) (events_in (given (ts ++ next))) (taken (ts ++ next))) (sym (by_then ts middle w.stops.by (at_turn b mid c a.turns)))
+          (subst (λ (k : Kept D). ComesBy honest moment left start (exchange_by middle) k (events_in (given (ts ++ middle))) (events_in (given (ts ++ next))) (taken (ts ++ next))) (sym (by_then ts next w.stops.by (at_turn b mid c a.turns)))
+          (exchange middle t after e))))
+
+      pub walked-then : (then : List Turn → Type 0) → then (ts ++ a.turns) → Walked then start c p r (x ++ got) (y ++ sent)
       walked-then then is =
           let t = w.talked in
           let answered : MayGoOn start.told x y = (
@@ -350,9 +436,15 @@ module _ {D : Type 0} (honest : D → Type 0) (moment : D → ℕ) (left : D →
               gives = given_then t.turns a.turns ∙ ap (λ (z : List ℕ). z ++ given a.turns) t.gives ∙ ap (λ (z : List ℕ). x ++ z) a.gives;
               takes = taken_then t.turns a.turns ∙ ap (λ (z : List ℕ). z ++ taken a.turns) t.takes ∙ ap (λ (z : List ℕ). y ++ z) a.takes;
             };
-            stops = λ before after e. elim (front_of w.talked.turns a.turns before after e) [
-              | inl m ↦ then-earlier before m.0 m.1
-              | inr m ↦ then-later before after m.0 m.1 m.2 m.3
-            ];
+            stops = record {
+              by = by_both ts w.stops.by (at_turn b mid c a.turns);
+              first = by_first ts w.stops.by (at_turn b mid c a.turns) start w.stops.first (sym w.stops.last);
+              last = by_then ts a.turns w.stops.by (at_turn b mid c a.turns) ∙ at_last b mid c a.turns idle_is;
+              each = λ before turn after e. elim (turn_of ts a.turns before after turn e) [
+                | inl m ↦ then-earlier before m.0 turn m.1
+                | inr m ↦ then-later before m.0 after turn m.1 m.2
+              ];
+            };
+            fares = going-ends honest moment left failed earlier start b c x unanswered got y sent n g f;
             are = is;
           }

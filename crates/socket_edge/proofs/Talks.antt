@@ -97,7 +97,7 @@ tails : (x y : Turn) (xs ys : List Turn) → x ∷ xs ≡ y ∷ ys → xs ≡ ys
 tails x y xs ys e = cc
 
 -- a turn of the one and then the other is a turn of the one, or of the other
-turn_of : (xs ys before after : List Turn) (t : Turn) → xs ++ ys ≡ before ++ t ∷ after
+pub turn_of : (xs ys before after : List Turn) (t : Turn) → xs ++ ys ≡ before ++ t ∷ after
     → ((rest : List Turn) × (xs ≡ before ++ t ∷ rest)) ⊎ ((middle : List Turn) × (before ≡ xs ++ middle) × (ys ≡ middle ++ t ∷ after))
 turn_of [] ys before after t e = inr (before, refl, e)
 turn_of (x ∷ xs) ys [] after t e = inl (xs, ap (λ (h : Turn). h ∷ xs) (heads x t (xs ++ ys) after e))
@@ -189,14 +189,14 @@ module _ {P : Type 0} (went : P → P → List Turn → Type 0)
     }
 
     -- they are sent
-    pub asked-and-sent : AllPass h.turns → (asks : AsksOnce went a c got sent) × Counted 1 asks.turns
+    pub asked-and-sent : AllPass h.turns → (asks : AsksOnce went a c got sent) × (asks.turns ≢ []) × Counted 1 asks.turns
     unfolding asked
-    asked-and-sent p = (asked, ((some, p), omega (arith, never_counted h.turns h.unasked)))
+    asked-and-sent p = (asked, (λ none. cc), ((some, p), omega (arith, never_counted h.turns h.unasked)))
 
     -- or the run ends there
-    pub asked-and-ends : (fault : EdgeFault) → LastTurn fault h.turns → (asks : AsksOnce went a c got sent) × LastTurn fault asks.turns
+    pub asked-and-ends : (fault : EdgeFault) → LastTurn fault h.turns → (asks : AsksOnce went a c got sent) × (asks.turns ≢ []) × LastTurn fault asks.turns
     unfolding asked
-    asked-and-ends fault last = (asked, fault_then fault (Gave got ∷ []) h.turns (some, tt) last)
+    asked-and-ends fault last = (asked, (λ none. cc), fault_then fault (Gave got ∷ []) h.turns (some, tt) last)
 
 -- what holds of the bytes holds of the turns' bytes
 pub told : {P : Type 0} (went : P → P → List Turn → Type 0) (start : Told) (a b : P) (x y : List ℕ) (t : Talked went start a b x y)

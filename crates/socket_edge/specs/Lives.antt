@@ -49,10 +49,10 @@ module _ {D : Type 0} (honest : D → Type 0) (moment : D → ℕ) (left : D →
       → Fares honest moment left old new read sent
       → EdgeRuns config entry opened_at begun old new events given read sent
 
-  -- The gateway's life had come to `events` and `given`, and the edge took it from `old` by `now` to `new`: the first of
-  -- the events that were read are taken. When it was at `now`, the first of those so far were, and these bytes were
-  -- sent.
-  pub record EdgeStops (config : Config) (entry : D) (opened_at : ℕ) (begun old now new : Kept D)
+  -- The gateway's life had come to `events` and `given`, and the edge took it from `old` by `now` to `later`. When it was
+  -- at `now`, the first of the events so far were taken, and these bytes were sent by then. When it was at `later`, the
+  -- first of those were taken that were read by then.
+  pub record EdgeStops (config : Config) (entry : D) (opened_at : ℕ) (begun old now later : Kept D)
       (events : List Event) (given : List (ℕ × Answer)) (so_far read : List Event)
       (sent : List ℕ) : Type 0 where
     -- A stop by then, or just then, is as one of a run that ends there: it knows of no event that was read later.
@@ -62,20 +62,20 @@ module _ {D : Type 0} (honest : D → Type 0) (moment : D → ℕ) (left : D →
     pub split : read ≡ front ++ back
     pub judged : List Judged
     pub are_judged : AreJudged old.told.config front judged
-    -- just these bring the gateway to the end of the run
-    pub reached : Reached old.told new.told judged
-    -- A stop since then, within the run, is the end of a life. Each answer counts as given out whose frame lies whole
-    -- in what was sent by then.
+    -- just these bring the gateway to the later one
+    pub reached : Reached old.told later.told judged
+    -- A stop since then, and before it was at the later one, is the end of a life, which knows of no event that was read
+    -- later either. Each answer counts as given out whose frame lies whole in what was sent.
     pub since : (n : ℕ) → n ≤ length front
         → length (frames (take n (replies old.told judged))) ≤ length sent
         → IsLived honest moment left seen config entry opened_at begun (events ++ front)
-        (given ++ take n (replies old.told judged)) now.disk new.disk
+        (given ++ take n (replies old.told judged)) now.disk later.disk
 
   -- A stop in the midst of a run of the edge, over a gateway that rests in its life, with what the run promises of each
-  -- of its turns (`AtEachTurn`).
+  -- of its turns (`AtEachTurn`): since a turn began, and before the next one did.
   abbrev pub EdgeStopsAreLives : Type 0
-  EdgeStopsAreLives = (config : Config) (entry : D) (opened_at : ℕ) (begun old new : Kept D)
+  EdgeStopsAreLives = (config : Config) (entry : D) (opened_at : ℕ) (begun old now later : Kept D)
       (events : List Event) (given : List (ℕ × Answer)) (so_far read : List Event) (sent : List ℕ)
       → RestsInLife honest moment left seen config entry opened_at begun events given old
-      → (by : ComesBy honest moment left old new so_far read sent)
-      → EdgeStops config entry opened_at begun old by.now new events given so_far read sent
+      → ComesBy honest moment left old now later so_far read sent
+      → EdgeStops config entry opened_at begun old now later events given so_far read sent

@@ -1,6 +1,6 @@
 -- What a run does.
-use Rattle.std.specs.Prelude.{◌≡◌, ◌≢◌, ◌⊎◌, ◌≤◌, ◌-◌, ◌^◌, ℕ, List, [], ◌∷◌, ◌++◌, length, take, false, Result, Ok, Err}
-use Rattle.disk_model.specs.Disk.{Files, LeavesNow, LeavesOnly}
+use Rattle.std.specs.Prelude.{◌≡◌, ◌≢◌, ◌⊎◌, ◌≤◌, ◌+◌, ◌-◌, ◌^◌, ℕ, List, [], ◌∷◌, ◌++◌, length, take, false, true, Result, Ok, Err}
+use Rattle.disk_model.specs.Disk.{Files, Grew, LeavesNow, LeavesOnly}
 use Rattle.durable.specs.Recovery.{IsConfigured}
 use Rattle.machine.specs.Judged.{Judged, AreJudged}
 use Rattle.machine.specs.declared.event.Event.{Event}
@@ -119,44 +119,69 @@ module _ {D : Type 0} (honest : D → Type 0) (moment : D → ℕ) (left : D →
     -- unless a call of the disk has failed, nothing is held behind it
     pub none : old.told.held ≡ [] → new.fallen ≡ false → new.told.held ≡ []
 
-  -- A crash since the gateway was `now`, within the run, leaves what the model has after a beginning of the events that
-  -- were taken, which holds each event whose answer's frame lies whole in these bytes.
-  pub record Preserves (now : Kept D) (events : List Event) (sent : List ℕ) : Type 0 where
+module _ {D : Type 0} (honest : D → Type 0) (moment : D → ℕ) (left : D → ℕ → Files → Type 0)
+    (old now later : Kept D) where
+  -- A crash since the gateway was `now`, and before it was `later`, leaves what the model has after a beginning of the
+  -- events that were taken by then, which holds each event whose answer's frame lies whole in these bytes.
+  pub record Preserves (events : List Event) (sent : List ℕ) : Type 0 where
     pub front : List Event
     pub back : List Event
     pub split : events ≡ front ++ back
     pub judged : List Judged
     pub are_judged : AreJudged old.told.config front judged
-    pub reached : Reached old.told new.told judged
+    pub reached : Reached old.told later.told judged
     pub since : (n : ℕ) → n ≤ length front
         → length (frames (take n (replies old.told judged))) ≤ length sent
-        → LeavesOnly moment left now.disk new.disk
+        → LeavesOnly moment left now.disk later.disk
         (IsSafe old.told.config old.told.state front n)
-    pub configured : LeavesOnly moment left now.disk new.disk (IsConfigured old.told.config)
+    pub configured : LeavesOnly moment left now.disk later.disk (IsConfigured old.told.config)
+
+  -- A run came by `now`: it had taken the first of the events so far, and the bytes that were sent by then are a
+  -- beginning of their answers' frames. Then it came by `later`, when it had taken the first of these events. Of an
+  -- honest disk, where nothing was held at the entry, no crash between the two loses what the bytes answer.
+  pub record ComesBy (so_far events : List Event) (sent : List ℕ) : Type 0 where
+    pub until : Fares honest moment left old now so_far sent
+    pub since : IsAtRest honest old → Preserves events sent
 
 module _ {D : Type 0} (honest : D → Type 0) (moment : D → ℕ) (left : D → ℕ → Files → Type 0)
     (old new : Kept D) where
-  -- The run came by a gateway `now`, when it had taken the first of the events so far, and sent these bytes. Of an
-  -- honest disk, where nothing was held at the entry, no crash since then loses what they answer.
-  pub record ComesBy (so_far events : List Event) (sent : List ℕ) : Type 0 where
-    pub now : Kept D
-    pub until : Fares honest moment left old now so_far sent
-    pub since : IsAtRest honest old → Preserves honest moment left old new now events sent
+  -- By which gateways a run came from turn to turn.
+  pub record AtEachTurn (turns : List Turn) : Type 0 where
+    -- the gateway when these of the turns had gone, and the next one began, or the run ended
+    pub by : List Turn → Kept D
+    pub first : by [] ≡ old
+    pub last : by turns ≡ new
+    -- As a turn begins, the first of the events are taken that were given before it. What the peer has taken behind it
+    -- is a beginning of their answers' frames. A crash from then on, up to the next turn or the end, loses nothing that
+    -- these answer, and leaves nothing of an event that is given later.
+    pub each : (before : List Turn) (turn : Turn) (after : List Turn)
+        → turns ≡ before ++ turn ∷ after
+        → ComesBy honest moment left old (by before) (by (before ++ turn ∷ []))
+        (events_in (given before)) (events_in (given (before ++ turn ∷ [])))
+        (taken (before ++ turn ∷ []))
 
-  -- After each beginning of the turns, with what the peer had given and taken by then.
-  abbrev pub AtEachTurn : List Turn → Type 0
-  AtEachTurn turns = (before after : List Turn) → turns ≡ before ++ after
-      → ComesBy (events_in (given before)) (events_in (given turns)) (taken before)
+module _ {D : Type 0} (failed : D → ℕ) (old new : Kept D) where
+  -- no call of the disk has failed, and the gateway stands
+  abbrev pub NoneFailed : Type 0
+  NoneFailed = (new.fallen ≡ false) × (failed new.disk ≡ failed old.disk)
+
+  -- The gateway has fallen exactly if a call of the disk has failed, and then no other one followed.
+  pub record FallsByAFailure : Type 0 where
+    pub no_failure : new.fallen ≡ false → failed new.disk ≡ failed old.disk
+    pub device : new.fallen ≡ true → Grew (failed old.disk) (failed new.disk)
+    pub by_one : failed new.disk ≤ failed old.disk + 1
 
 module _ {D : Type 0} (honest : D → Type 0) (moment : D → ℕ) (left : D → ℕ → Files → Type 0)
     (failed : D → ℕ) where
-  -- a run that what was read, or a failed read, has ended leaves a gateway that stands; a fault of the gateway has its
-  -- cause; of a failed write nothing is said here
+  -- Why a run ended, that a gateway which stood began. If what was read, or a failed read, has ended it, no call of the
+  -- disk has failed. If a failed write has, one may have, and then the gateway has fallen by it. A fault of the gateway
+  -- has its cause, and unless the gateway has fallen, no call of the disk has failed.
   abbrev pub Explains : EdgeFault → Kept D → Kept D → Type 0
-  Explains BadKind old new = new.fallen ≡ false
-  Explains BadInterface old new = new.fallen ≡ false
-  Explains TooLong old new = new.fallen ≡ false
-  Explains Truncated old new = new.fallen ≡ false
-  Explains Input old new = new.fallen ≡ false
-  Explains Output old new = Unit {0}
+  Explains BadKind old new = NoneFailed failed old new
+  Explains BadInterface old new = NoneFailed failed old new
+  Explains TooLong old new = NoneFailed failed old new
+  Explains Truncated old new = NoneFailed failed old new
+  Explains Input old new = NoneFailed failed old new
+  Explains Output old new = FallsByAFailure failed old new
   Explains (Gateway fault) old new = IsWhy honest moment left failed old new fault
+      × (new.fallen ≡ false → failed new.disk ≡ failed old.disk)

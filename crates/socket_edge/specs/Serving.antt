@@ -20,7 +20,7 @@ use Rattle.socket_edge.specs.declared.edge.ReadOutcome.{ReadOutcome}
 use Rattle.socket_edge.specs.declared.edge.ReadOutcome.TheVariants as read_outcome
 use Rattle.socket_edge.specs.Progress.{Progress}
 use Rattle.socket_edge.specs.Turns.{Turn, Gave, ReadFailed, Took, WriteFailed, AllPass, LastIs, LastTookNone, given, taken, times_asked}
-use Rattle.socket_edge.specs.Running.{AllAnswered, EndsBy, Fares, Explains, LastTurn, events_in}
+use Rattle.socket_edge.specs.Running.{AllAnswered, ComesBy, EndsBy, Fares, Explains, LastTurn, events_in}
 
 -- the peer was asked for nothing
 abbrev pub NeverAsks : List Turn → Type 0
@@ -117,6 +117,13 @@ end_of (halt.Bad header_fault.BadInterface) = Err BadInterface
 end_of (halt.Bad header_fault.TooLong) = Err TooLong
 end_of (halt.Refused fault) = Err (Gateway fault)
 
+module _ {D : Type 0} (honest : D → Type 0) (moment : D → ℕ) (left : D → ℕ → Files → Type 0) where
+  -- Between the two the run came by one gateway, and went on as it was while it sent these answers: all was settled
+  -- before, and behind them the file may have been compacted.
+  pub record ComesByOne (old new : Kept D) (events : List Event) (sent : List ℕ) : Type 0 where
+    pub now : Kept D
+    pub comes : ComesBy honest moment left old now new events events sent
+
 module _ {D : Type 0} (honest : D → Type 0) (moment : D → ℕ) (left : D → ℕ → Files → Type 0)
     (failed : D → ℕ) where
   -- What all whole frames at the front came to. Refused: the bytes read as these events and then `later`, and the first
@@ -155,6 +162,7 @@ module _ {D : Type 0} (honest : D → Type 0) (moment : D → ℕ) (left : D →
     pub split : events_in bytes ≡ front ++ back
     pub ends : Ends honest moment left failed start now front out
     pub is_why : IsWhy honest moment left failed start now fault
+    pub no_failure : now.fallen ≡ false → failed now.disk ≡ failed start.disk
     pub none : start.told.held ≡ [] → now.fallen ≡ false → now.told.held ≡ []
 
   -- the frames at the front were settled, or why not

@@ -8,8 +8,8 @@ ghost use Rattle.std.specs.Prelude.{◌≡◌, ◌≢◌, ◌↔◌, ℕ, List, 
 ghost use Rattle.std.specs.Io.KnownBytes.{Appends, Consumes, IsAtEnd};
 ghost use Rattle.machine.specs.declared.event.Answer.{Answer};
 ghost use Rattle.frames.specs.Requests.{next, Cut};
-ghost use Rattle.socket_edge.specs.Running.{AnswersFirst, AtEachTurn, ComesBy, Explains, Fares, RunEnded, TurnsEnd, events_in};
-ghost use Rattle.socket_edge.specs.Serving.{AsksOnce, FrontCame, Hands, ReadBy, ReadCame, SentBy, SettledAndSent};
+ghost use Rattle.socket_edge.specs.Running.{AnswersFirst, AtEachTurn, Explains, Fares, RunEnded, TurnsEnd, events_in};
+ghost use Rattle.socket_edge.specs.Serving.{AsksOnce, ComesByOne, FrontCame, Hands, ReadBy, ReadCame, SentBy, SettledAndSent};
 ghost use Rattle.socket_edge.specs.Turns.{Turn, given, taken};
 
 use crate::fault::EdgeFault;
@@ -78,8 +78,8 @@ fn answer_read<P: Peer, D: Disk + Drop>(
         waiting.old.unanswered waiting.new.unanswered sent
         × Fares D.honest D.moment D.left gateway.old gateway.new
         (events_in waiting.old.unanswered) sent
-        × ComesBy D.honest D.moment D.left gateway.old gateway.new
-        (events_in waiting.old.unanswered) (events_in waiting.old.unanswered) sent
+        × ComesByOne D.honest D.moment D.left gateway.old gateway.new
+        (events_in waiting.old.unanswered) sent
         × SentBy result hands.turns }
     ensures why { IfErr result (λ e. Explains D.honest D.moment D.left D.failed e gateway.old
         gateway.new) }
@@ -112,9 +112,9 @@ fn read_once<P: Peer, D: Disk + Drop>(
         (P.ended peer.new)
         × Fares D.honest D.moment D.left gateway.old gateway.new
         (events_in (waiting.old.unanswered ++ got)) sent
-        × ComesBy D.honest D.moment D.left gateway.old gateway.new
-        (events_in (waiting.old.unanswered ++ got)) (events_in (waiting.old.unanswered ++ got))
-        sent
+        × ComesByOne D.honest D.moment D.left gateway.old gateway.new
+        (events_in (waiting.old.unanswered ++ got)) sent
+        × (asks.turns ≡ [] → gateway.new ≡ gateway.old)
         × ReadBy result asks.turns }
     ensures why { IfErr result (λ e. Explains D.honest D.moment D.left D.failed e gateway.old
         gateway.new) }
@@ -165,7 +165,7 @@ pub fn run_with<P: Peer, D: Disk + Drop>(
     gateway: &mut Gateway<D>,
 ) -> Result<u64, EdgeFault>
     // By which turns it went, how the run ended, what a crash leaves of it, that answers came first, what a crash
-    // leaves that comes after some of the turns, and which turn was the last.
+    // leaves that comes between two turns, and which turn was the last.
     ensures ran { (turns : List Turn) × P.went peer.old peer.new turns
         × RunEnded result gateway.old.told gateway.new.told (given turns) (taken turns)
         (P.ended peer.new)
@@ -178,6 +178,7 @@ pub fn run_with<P: Peer, D: Disk + Drop>(
     ensures why { gateway.old.fallen ≡ false
         → IfErr result (λ e. Explains D.honest D.moment D.left D.failed e gateway.old gateway.new) }
     ensures stands { OnOk result ((gateway.old.fallen ≡ false) × (gateway.new.fallen ≡ false)) }
+    ensures no_failure { OnOk result (D.failed gateway.new.disk ≡ D.failed gateway.old.disk) }
     ensures reopen { IfErr result (λ e. (e ≡ EdgeFault.Gateway GatewayFault.Reopen)
         ↔ (gateway.old.fallen ≡ true)) }
     ensures reopen_stays { gateway.old.fallen ≡ true → gateway.new ≡ gateway.old }
@@ -189,7 +190,6 @@ pub fn run_with<P: Peer, D: Disk + Drop>(
         return Err(EdgeFault::Gateway(GatewayFault::Reopen));
     }
     stands(gateway);
-    events_are_judged_once();
     let mut waiting = Waiting::new(alloc);
     let mut count: u64 = 0;
     for _ in 0..u64::MAX {
@@ -241,6 +241,7 @@ pub fn run<R: Read, W: Write, D: Disk + Drop>(
     ensures why { gateway.old.fallen ≡ false
         → IfErr result (λ e. Explains D.honest D.moment D.left D.failed e gateway.old gateway.new) }
     ensures stands { OnOk result ((gateway.old.fallen ≡ false) × (gateway.new.fallen ≡ false)) }
+    ensures no_failure { OnOk result (D.failed gateway.new.disk ≡ D.failed gateway.old.disk) }
     ensures reopen { IfErr result (λ e. (e ≡ EdgeFault.Gateway GatewayFault.Reopen)
         ↔ (gateway.old.fallen ≡ true)) }
     ensures reopen_stays { gateway.old.fallen ≡ true → gateway.new ≡ gateway.old }

@@ -8,8 +8,9 @@ use disk_model::Disk;
 /// fallen, it rests again after the run, and the next one may follow. So `gateway::laws::lives_are_the_models` holds of
 /// any runs over one gateway, of the stops in them, and of the gateways that are opened afterwards.
 ///
-/// If the run is stopped in its midst, each answer counts as given out that was sent before: its frame lies whole in
-/// what the peer had taken by the last turn before the stop (`stops`).
+/// If the run is stopped in its midst, since a turn began and before the next one did, each answer counts as given out
+/// whose frame lies whole in what the peer has taken with the turn, and no event counts as taken that the peer gave
+/// later (`stops`).
 pub fn runs_are_lives<D: Disk>(_: &D)
     ensures runs { EdgeRunsAreLives D.honest D.moment D.left D.seen }
     ensures stops { EdgeStopsAreLives D.honest D.moment D.left D.seen }

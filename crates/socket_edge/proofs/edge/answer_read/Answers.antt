@@ -2,7 +2,7 @@ use Rattle.std.proofs.Common.{[], refl}
 use Rattle.std.proofs.lemmas.Result.{err_from_is_err_and}
 use Rattle.socket_edge.specs.Running.{events_in}
 use Rattle.socket_edge.proofs.Closing.{served, served-fares, served-no_failure, not_compacted}
-use Rattle.socket_edge.proofs.Stopping.{by-end, compacted-by, compacted-fares, stopped-fares}
+use Rattle.socket_edge.proofs.Stopping.{by-one-end, compacted-by, compacted-fares, stopped-fares}
 use Rattle.socket_edge.proofs.edge.answer_read.Goals as goal
 
 pub returns-in_err-count-clause-served : goal.returns-in_err-count-clause-served
@@ -14,7 +14,7 @@ returns-in_err-count-clause-served g c =
       a.2,
       a.3.0,
       a.3.1,
-      by-end g.D.Disk.honest g.D.Disk.moment g.D.Disk.left g.met.D.Disk.earlier c.args.gateway.now c.answer_front.new.gateway (events_in c.args.waiting.now.unanswered) a.1 a.3.1,
+      by-one-end g.D.Disk.honest g.D.Disk.moment g.D.Disk.left g.met.D.Disk.earlier c.args.gateway.now c.answer_front.new.gateway (events_in c.args.waiting.now.unanswered) a.1 a.3.1,
       a.4,
     )
 

@@ -1,14 +1,14 @@
-use Rattle.std.proofs.Common.{◌≡◌, ◌≢◌, List, [], ◌++◌, ℕ, length, arith, subst, sym, ap, ◌∙◌}
+use Rattle.std.proofs.Common.{◌≡◌, ◌≢◌, List, [], ◌++◌, ℕ, length, arith, refl, subst, sym, ap, ◌∙◌}
 use Rattle.std.proofs.lemmas.Grind.{common_steps}
 use Rattle.std.proofs.lemmas.List.{append-nil, nil_from_length}
 use Rattle.socket_edge.specs.Exchange.{Exchange}
-use Rattle.socket_edge.specs.Serving.{Served}
+use Rattle.socket_edge.specs.Serving.{ComesByOne, Served}
 use Rattle.frames.specs.Framing.{Rest}
-use Rattle.socket_edge.specs.Running.{ComesBy, EndsBy, Fares, events_in}
+use Rattle.socket_edge.specs.Running.{EndsBy, Fares, events_in}
 use Rattle.socket_edge.proofs.Talks.{asked-and-ends, asked-and-sent, asked-at-end, asked-in-vain, asked-none}
 use Rattle.socket_edge.proofs.Answers.{AnsweredFirst-nothing}
 use Rattle.socket_edge.proofs.Runs.{EndsBy-seen, nothing, nothing_stops, nothing_counts}
-use Rattle.socket_edge.proofs.Stopping.{by-end}
+use Rattle.socket_edge.proofs.Stopping.{by-one-end}
 use Rattle.socket_edge.proofs.Tending.{idle-fares}
 use Rattle.socket_edge.proofs.edge.read_once.Goals as goal
 
@@ -30,8 +30,9 @@ returns-in-Err-NoMemory-clause-came g c =
       k.0,
       AnsweredFirst-nothing c.args.gateway.now.told (events_in (c.args.waiting.now.unanswered ++ [])),
       idle-fares g.D.Disk.honest g.D.Disk.moment g.D.Disk.left g.D.Disk.seen g.D.Disk.failed g.met.D.Disk.reads g.met.D.Disk.earlier c.args.gateway.now c.stands.ensures (events_in (c.args.waiting.now.unanswered ++ [])),
-      by-end g.D.Disk.honest g.D.Disk.moment g.D.Disk.left g.met.D.Disk.earlier c.args.gateway.now c.args.gateway.now (events_in (c.args.waiting.now.unanswered ++ [])) []
+      by-one-end g.D.Disk.honest g.D.Disk.moment g.D.Disk.left g.met.D.Disk.earlier c.args.gateway.now c.args.gateway.now (events_in (c.args.waiting.now.unanswered ++ [])) []
           (idle-fares g.D.Disk.honest g.D.Disk.moment g.D.Disk.left g.D.Disk.seen g.D.Disk.failed g.met.D.Disk.reads g.met.D.Disk.earlier c.args.gateway.now c.stands.ensures (events_in (c.args.waiting.now.unanswered ++ []))),
+      (λ none. refl),
       k.1,
     )
 
@@ -43,8 +44,9 @@ returns-in-Err-Failed-clause-came g c =
       k.0,
       nothing c.args.gateway.now.told c.args.waiting.now.unanswered c.requires.cut,
       idle-fares g.D.Disk.honest g.D.Disk.moment g.D.Disk.left g.D.Disk.seen g.D.Disk.failed g.met.D.Disk.reads g.met.D.Disk.earlier c.args.gateway.now c.stands.ensures (events_in (c.args.waiting.now.unanswered ++ [])),
-      by-end g.D.Disk.honest g.D.Disk.moment g.D.Disk.left g.met.D.Disk.earlier c.args.gateway.now c.args.gateway.now (events_in (c.args.waiting.now.unanswered ++ [])) []
+      by-one-end g.D.Disk.honest g.D.Disk.moment g.D.Disk.left g.met.D.Disk.earlier c.args.gateway.now c.args.gateway.now (events_in (c.args.waiting.now.unanswered ++ [])) []
           (idle-fares g.D.Disk.honest g.D.Disk.moment g.D.Disk.left g.D.Disk.seen g.D.Disk.failed g.met.D.Disk.reads g.met.D.Disk.earlier c.args.gateway.now c.stands.ensures (events_in (c.args.waiting.now.unanswered ++ []))),
+      (λ none. refl),
       k.1,
     )
 
@@ -67,8 +69,9 @@ returns-then-is_empty-clause-came g c =
         ended = c.in-Ok.ensures.end c.if-n-eq0.true;
       },
       idle-fares g.D.Disk.honest g.D.Disk.moment g.D.Disk.left g.D.Disk.seen g.D.Disk.failed g.met.D.Disk.reads g.met.D.Disk.earlier c.args.gateway.now c.stands.ensures (events_in (c.args.waiting.now.unanswered ++ [])),
-      by-end g.D.Disk.honest g.D.Disk.moment g.D.Disk.left g.met.D.Disk.earlier c.args.gateway.now c.args.gateway.now (events_in (c.args.waiting.now.unanswered ++ [])) []
+      by-one-end g.D.Disk.honest g.D.Disk.moment g.D.Disk.left g.met.D.Disk.earlier c.args.gateway.now c.args.gateway.now (events_in (c.args.waiting.now.unanswered ++ [])) []
           (idle-fares g.D.Disk.honest g.D.Disk.moment g.D.Disk.left g.D.Disk.seen g.D.Disk.failed g.met.D.Disk.reads g.met.D.Disk.earlier c.args.gateway.now c.stands.ensures (events_in (c.args.waiting.now.unanswered ++ []))),
+      (λ none. refl),
       k.1,
     )
 
@@ -86,8 +89,9 @@ returns-then-n-eq0-clause-came g c =
       k.0,
       (c.args.waiting.now.unanswered, nothing_stops c.args.waiting.now.unanswered c.requires.cut, some, nothing c.args.gateway.now.told c.args.waiting.now.unanswered c.requires.cut, c.in-Ok.ensures.end c.if-n-eq0.true),
       idle-fares g.D.Disk.honest g.D.Disk.moment g.D.Disk.left g.D.Disk.seen g.D.Disk.failed g.met.D.Disk.reads g.met.D.Disk.earlier c.args.gateway.now c.stands.ensures (events_in (c.args.waiting.now.unanswered ++ [])),
-      by-end g.D.Disk.honest g.D.Disk.moment g.D.Disk.left g.met.D.Disk.earlier c.args.gateway.now c.args.gateway.now (events_in (c.args.waiting.now.unanswered ++ [])) []
+      by-one-end g.D.Disk.honest g.D.Disk.moment g.D.Disk.left g.met.D.Disk.earlier c.args.gateway.now c.args.gateway.now (events_in (c.args.waiting.now.unanswered ++ [])) []
           (idle-fares g.D.Disk.honest g.D.Disk.moment g.D.Disk.left g.D.Disk.seen g.D.Disk.failed g.met.D.Disk.reads g.met.D.Disk.earlier c.args.gateway.now c.stands.ensures (events_in (c.args.waiting.now.unanswered ++ []))),
+      (λ none. refl),
       k.1,
     )
 
@@ -102,8 +106,9 @@ returns-in-Ok-answer_read-clause-came g c =
       k.0,
       subst (λ (bytes : List ℕ). Served c.args.gateway.now.told c.answer_read.new.gateway.told bytes c.answer_read.new.waiting.unanswered s.0 c.in-Ok-answer_read.count) same s.2,
       subst (λ (bytes : List ℕ). Fares g.D.Disk.honest g.D.Disk.moment g.D.Disk.left c.args.gateway.now c.answer_read.new.gateway (events_in bytes) s.0) same s.3,
-      subst (λ (bytes : List ℕ). ComesBy g.D.Disk.honest g.D.Disk.moment g.D.Disk.left c.args.gateway.now c.answer_read.new.gateway (events_in bytes) (events_in bytes) s.0) same s.4,
-      k.1,
+      subst (λ (bytes : List ℕ). ComesByOne g.D.Disk.honest g.D.Disk.moment g.D.Disk.left c.args.gateway.now c.answer_read.new.gateway (events_in bytes) s.0) same s.4,
+      (λ none. absurd (k.1 none)),
+      k.2,
     )
 
 pub returns-in-Err-clause-came : goal.returns-in-Err-clause-came
@@ -118,6 +123,7 @@ returns-in-Err-clause-came g c =
       EndsBy-seen c.in-Err.fault c.args.gateway.now.told c.answer_read.new.gateway.told (c.args.waiting.now.unanswered ++ b.0) s.0 (g.P.Peer.ended c.answer_read.new.peer)
           (subst (λ (bytes : List ℕ). EndsBy c.in-Err.fault c.args.gateway.now.told c.answer_read.new.gateway.told bytes s.0 ⊥) same s.2),
       subst (λ (bytes : List ℕ). Fares g.D.Disk.honest g.D.Disk.moment g.D.Disk.left c.args.gateway.now c.answer_read.new.gateway (events_in bytes) s.0) same s.3,
-      subst (λ (bytes : List ℕ). ComesBy g.D.Disk.honest g.D.Disk.moment g.D.Disk.left c.args.gateway.now c.answer_read.new.gateway (events_in bytes) (events_in bytes) s.0) same s.4,
-      k.1,
+      subst (λ (bytes : List ℕ). ComesByOne g.D.Disk.honest g.D.Disk.moment g.D.Disk.left c.args.gateway.now c.answer_read.new.gateway (events_in bytes) s.0) same s.4,
+      (λ none. absurd (k.1 none)),
+      k.2,
     )

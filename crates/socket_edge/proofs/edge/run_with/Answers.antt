@@ -19,8 +19,7 @@ returns-then-has_fallen-clause-ran g c = (
   AnsweredFirst-nothing c.args.gateway.now.told (events_in []),
   fallen-fares g.D.Disk.honest g.D.Disk.moment g.D.Disk.left g.D.Disk.failed g.met.D.Disk.earlier c.args.gateway.now (events_in []) (sym c.has_fallen.ensures.value ∙ c.if-has_fallen.true),
   first-nil c.args.gateway.now.told,
-  stops-nil g.D.Disk.honest g.D.Disk.moment g.D.Disk.left g.met.D.Disk.earlier g.P.Peer.went c.args.gateway.now c.args.gateway.now
-      (fallen-fares g.D.Disk.honest g.D.Disk.moment g.D.Disk.left g.D.Disk.failed g.met.D.Disk.earlier c.args.gateway.now (events_in []) (sym c.has_fallen.ensures.value ∙ c.if-has_fallen.true)),
+  stops-nil g.D.Disk.honest g.D.Disk.moment g.D.Disk.left g.met.D.Disk.earlier g.P.Peer.went c.args.gateway.now,
   inl tt,
 )
 
@@ -38,9 +37,9 @@ returns-in-Ok-End-clause-ran g c =
     let i = c.loop.invariant in
     let t = rw c.in-Ok-End.field-0-is at c.in-Ok-End.ensures.came in
     let at_end = g.P.Peer.ended c.read_once.new.peer in
-    let w = walked-then g.D.Disk.honest g.D.Disk.moment g.D.Disk.left g.met.D.Disk.earlier g.P.Peer.went g.D.Disk.failed g.met.P.Peer.further c.events_are_judged_once.ensures c.args.gateway.now c.loop.gateway c.read_once.new.gateway c.args.peer.now c.loop.peer c.read_once.new.peer
-    i.0 i.1 t.0 t.1 c.loop.waiting.unanswered c.loop.count (Counted c.loop.counter) i.2 i.3 t.4 t.5 t.2
-    (TurnsEnd (Ok c.loop.count)) (last_then (Gave []) i.2.talked.turns t.2.turns i.2.are.0 t.6) in
+    let w = walked-then g.D.Disk.honest g.D.Disk.moment g.D.Disk.left g.met.D.Disk.earlier g.P.Peer.went g.D.Disk.failed g.met.P.Peer.further c.args.gateway.now c.loop.gateway c.read_once.new.gateway c.args.peer.now c.loop.peer c.read_once.new.peer
+    i.0 i.1 t.0 t.1 c.loop.waiting.unanswered c.loop.count (Counted c.loop.counter) i.2 i.3 t.4 t.5 t.2 t.6
+    (TurnsEnd (Ok c.loop.count)) (last_then (Gave []) i.2.talked.turns t.2.turns i.2.are.0 t.7) in
     let k = w.talked in
     let so = told g.P.Peer.went c.args.gateway.now.told c.args.peer.now c.read_once.new.peer (i.0 ++ t.0) (i.1 ++ t.1) k in (
       k.turns,
@@ -60,9 +59,9 @@ returns-in-Err-clause-ran g c =
     let i = c.loop.invariant in
     let t = c.in-Err.ensures.came in
     let at_end = g.P.Peer.ended c.read_once.new.peer in
-    let w = walked-then g.D.Disk.honest g.D.Disk.moment g.D.Disk.left g.met.D.Disk.earlier g.P.Peer.went g.D.Disk.failed g.met.P.Peer.further c.events_are_judged_once.ensures c.args.gateway.now c.loop.gateway c.read_once.new.gateway c.args.peer.now c.loop.peer c.read_once.new.peer
-    i.0 i.1 t.0 t.1 c.loop.waiting.unanswered c.loop.count (Counted c.loop.counter) i.2 i.3 t.4 t.5 t.2
-    (TurnsEnd (Err c.in-Err.fault)) (inl (fault_then c.in-Err.fault i.2.talked.turns t.2.turns i.2.are.0 t.6)) in
+    let w = walked-then g.D.Disk.honest g.D.Disk.moment g.D.Disk.left g.met.D.Disk.earlier g.P.Peer.went g.D.Disk.failed g.met.P.Peer.further c.args.gateway.now c.loop.gateway c.read_once.new.gateway c.args.peer.now c.loop.peer c.read_once.new.peer
+    i.0 i.1 t.0 t.1 c.loop.waiting.unanswered c.loop.count (Counted c.loop.counter) i.2 i.3 t.4 t.5 t.2 t.6
+    (TurnsEnd (Err c.in-Err.fault)) (inl (fault_then c.in-Err.fault i.2.talked.turns t.2.turns i.2.are.0 t.7)) in
     let k = w.talked in
     let so = told g.P.Peer.went c.args.gateway.now.told c.args.peer.now c.read_once.new.peer (i.0 ++ t.0) (i.1 ++ t.1) k in (
       k.turns,
@@ -82,9 +81,9 @@ loop-preserved g c =
     let t = rw c.in-Ok-More.field-0-is at c.in-Ok-More.ensures.came in (
       i.0 ++ t.0,
       i.1 ++ t.1,
-      walked-then g.D.Disk.honest g.D.Disk.moment g.D.Disk.left g.met.D.Disk.earlier g.P.Peer.went g.D.Disk.failed g.met.P.Peer.further c.events_are_judged_once.ensures c.args.gateway.now c.loop.gateway c.read_once.new.gateway c.args.peer.now c.loop.peer c.read_once.new.peer
-          i.0 i.1 t.0 t.1 c.loop.waiting.unanswered c.loop.count (Counted c.loop.counter) i.2 i.3 t.4 t.5 t.2
-          (Counted (c.loop.counter + 1)) (counted_then c.loop.counter i.2.talked.turns t.2.turns i.2.are t.6),
+      walked-then g.D.Disk.honest g.D.Disk.moment g.D.Disk.left g.met.D.Disk.earlier g.P.Peer.went g.D.Disk.failed g.met.P.Peer.further c.args.gateway.now c.loop.gateway c.read_once.new.gateway c.args.peer.now c.loop.peer c.read_once.new.peer
+          i.0 i.1 t.0 t.1 c.loop.waiting.unanswered c.loop.count (Counted c.loop.counter) i.2 i.3 t.4 t.5 t.2 t.6
+          (Counted (c.loop.counter + 1)) (counted_then c.loop.counter i.2.talked.turns t.2.turns i.2.are t.7),
       rw c.sum-count.ensures (going-next g.D.Disk.honest g.D.Disk.moment g.D.Disk.left g.D.Disk.failed g.met.D.Disk.earlier c.args.gateway.now c.loop.gateway c.read_once.new.gateway i.0 c.loop.waiting.unanswered t.0 c.read_once.new.waiting.unanswered i.1 t.1 c.loop.count c.in-Ok-More.more i.3 t.3 t.4
           c.in-Ok-More.ensures.stands c.in-Ok-More.ensures.no_failure (c.in-Ok-More.ensures.grown (λ is. absurd cc))),
     )
