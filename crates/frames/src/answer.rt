@@ -1,9 +1,10 @@
 //! The frames of answers: put behind bytes (`put_frames`), or written over the request's own, as far as a packet that
 //! lies there already (`write_front`).
-ghost use Rattle.std.specs.Prelude.{◌≡◌, ◌+◌, ◌<◌, ◌≤◌, ◌^◌, ℕ, List, [], ◌∷◌, ◌++◌, OnOk, OnErr, length, take};
+ghost use Rattle.std.specs.Prelude.{◌≡◌, ◌≢◌, ◌+◌, ◌<◌, ◌≤◌, ◌^◌, ℕ, List, [], ◌∷◌, ◌++◌, OnOk, OnErr, length, take};
 ghost use Rattle.byteorder.specs.Endian.{big_bytes};
 ghost use Rattle.machine.specs.Fates.{answer_of};
 ghost use Rattle.machine.specs.declared.event.Answer.TheVariants.{Dropped, Forward};
+ghost use Rattle.machine.specs.declared.event.Fate.TheVariants.{Leaves};
 ghost use Rattle.frames.specs.Answers.{iface_byte, kind_byte, answer_body, frame_head, frame, frames};
 
 use machine::{Answer, Fate, Iface};
@@ -175,6 +176,21 @@ pub fn write_front(front: &mut [u8], number: u64, fate: Fate, len: usize) -> usi
             front.copy_from_slice(&forward_front(number, iface, len));
             ANSWER_FRONT + len
         }
+        _ => write_short(front, number, fate),
+    }
+}
+
+/// As `write_front`, where no packet leaves. Not compiled into its caller: most packets leave.
+#[inline(never)]
+fn write_short(front: &mut [u8], number: u64, fate: Fate) -> usize
+    requires size { length front.old ≡ 14 }
+    requires short { (iface : Iface) → fate ≢ Leaves iface }
+    ensures frame { (packet : List ℕ) → take result (front.new ++ packet)
+        ≡ frame (number, answer_of fate packet) }
+    ensures within { result ≤ 14 }
+    ensures size { length front.new ≡ length front.old }
+{
+    match fate {
         Fate::Dropped(cause) => {
             front.copy_from_slice(&drop_frame(number, cause));
             ANSWER_FRONT
@@ -182,5 +198,6 @@ pub fn write_front(front: &mut [u8], number: u64, fate: Fate, len: usize) -> usi
         Fate::Loaded => write_bare(front, 3, number),
         Fate::Refused => write_bare(front, 4, number),
         Fate::Ticked => write_bare(front, 5, number),
+        Fate::Leaves(_) => unreachable!(),
     }
 }

@@ -165,14 +165,14 @@ module _ {D : Type 0} (honest : D → Type 0) (moment : D → ℕ) (left : D →
   }
 
   -- or it isn't
-  pub fails-refused : (why : GatewayFault) → length old.told.held < 64 → new ≡ old → Refuses old event why → why ≢ fault.Full
+  pub fails-refused : (why : GatewayFault) → why ≢ fault.HeldFull → new ≡ old → Refuses old event why → why ≢ fault.Full
       → Fails honest moment left failed old new (event ∷ []) why
-  fails-refused why few same refused full =
+  fails-refused why some same refused full =
       fails-held honest moment left failed old new (event ∷ []) why
       (λ before. breaks-here honest moment left failed old new (event ∷ []) before before why
       (λ start events s. record {
         ends = subst (λ (n : Kept D). Ends honest moment left failed start n events before) (sym same) (ended honest moment left seen failed reads earlier start old events before s);
-        is_why = offer-why honest moment left seen failed reads earlier start old events before s new why same few refused.reopen refused.numbers_out refused.held_full refused.causes full;
+        is_why = offer-why honest moment left seen failed reads earlier start old events before s new why same some refused.reopen refused.numbers_out refused.causes full;
         stays = λ other. subst (λ (n : Kept D). Stands honest moment left failed start n events before) (sym same) s;
       }))
       (ap (λ (g : Kept D). g.told.held) same) (ap (λ (g : Kept D). g.told.state) same) (ap (λ (g : Kept D). g.told.last) same)

@@ -151,6 +151,12 @@ offers now next event (Held number) first t at_once =
 
 -- ---- call by call
 
+-- where fewer than 64 answers are held, nothing is refused for want of places
+pub few-fit : {D : Type 0} (now : Kept D) (why : GatewayFault) → length now.told.held < 64
+    → (why ≡ fault.HeldFull) ↔ ((now.fallen ≡ false) × (now.told.last < 2 ^ 64 - 1) × (length now.told.held ≡ 64))
+    → why ≢ fault.HeldFull
+few-fit now why few held is = let n : length now.told.held ≡ 64 = (held.0 is).2 in omega (arith, few, n)
+
 module _ {D : Type 0} (honest : D → Type 0) (moment : D → ℕ) (left : D → ℕ → Files → Type 0) (seen : D → Files) (failed : D → ℕ)
     (reads : (disk : D) → honest disk → left disk (moment disk) (seen disk))
     (earlier : (disk : D) (s t : ℕ) (files : Files) → s ≤ t → left disk t files → left disk s files) (start : Kept D) where
@@ -413,13 +419,12 @@ module _ {D : Type 0} (honest : D → Type 0) (moment : D → ℕ) (left : D →
     }
 
     -- of an offer
-    pub offer-why : (next : Kept D) (why : GatewayFault) → next ≡ now → length now.told.held < 64 → (why ≡ fault.Reopen) ↔ (now.fallen ≡ true)
+    pub offer-why : (next : Kept D) (why : GatewayFault) → next ≡ now → why ≢ fault.HeldFull → (why ≡ fault.Reopen) ↔ (now.fallen ≡ true)
         → (why ≡ fault.NumbersOut) ↔ ((now.fallen ≡ false) × (now.told.last ≡ 2 ^ 64 - 1))
-        → (why ≡ fault.HeldFull) ↔ ((now.fallen ≡ false) × (now.told.last < 2 ^ 64 - 1) × (length now.told.held ≡ 64))
         → (why ≢ fault.Device) × (why ≢ fault.Generations) → why ≢ fault.Full → IsWhy honest moment left failed start next why
-    offer-why next why same few reopen numbers held causes full = record {
+    offer-why next why same some reopen numbers causes full = record {
       stood = λ is. true-false now.fallen (reopen.0 is) s.stands;
-      made_room = ((λ is. let n : length now.told.held ≡ 64 = (held.0 is).2 in omega (arith, few, n)), full);
+      made_room = (some, full);
       numbers_out = λ is. ap (λ (g : Kept D). g.told.last) same ∙ (numbers.0 is).1;
       fell = (λ d. absurd (causes.0 d), λ up. absurd (true-false now.fallen (sym (ap (λ (g : Kept D). g.fallen) same) ∙ up) s.stands));
       device = λ d. absurd (causes.0 d);

@@ -1,8 +1,8 @@
 //! One more event of a run, taken in its caller's bytes. Whoever calls these has each held answer already, as it was
 //! told; so what is held is settled, and nothing is handed out.
 //!
-//! - `take_packet`: where 64 answers are held `settle_held_full` settles them first; then `Gateway::take_packet` takes
-//!   the packet, and where it is refused as Full, `make_room` settles and compacts, and it is taken again
+//! - `take_packet`: `Gateway::take_packet` takes the packet. Where it is refused for want of room, `retake_packet` settles
+//!   the held answers (`settle_held_full`), or settles and compacts (`make_room`), and it is taken again
 //! - `take_load`, `take_moment`: so does `take_event` an event without a packet, by `Gateway::take_event`
 ghost use Rattle.std.specs.Prelude.{◌≡◌, ◌≢◌, ◌^◌, ◌<◌, ◌≤◌, ◌∷◌, [], ℕ, List, false, length};
 ghost use Rattle.std.specs.Prelude.{IfErr, IfOk, OnErr, OnOk, true};
@@ -21,9 +21,9 @@ use disk_model::Disk;
 use machine::{Event, Iface, What};
 
 /// Takes a packet where it lies, as `take` takes an event: it is translated there, and what it is answered is told,
-/// whether it is answered at once or its answer is held. Where 64 answers are held they are settled first, since their
-/// caller has them; where the packet is refused as `Full` all are settled, the files are made short, and it is taken
-/// again. The moment is in seconds.
+/// whether it is answered at once or its answer is held. Where it is refused since 64 answers are held, these are settled,
+/// since their caller has them, and it is taken again; where it is refused as `Full` the files are made short too. The
+/// moment is in seconds.
 ///
 /// # Errors
 ///
@@ -55,6 +55,51 @@ pub fn take_packet<D: Disk + Drop>(
     ensures in_place { gateway.new.in_place ≡ true }
     ensures length { length packet.new ≡ length packet.old }
 {
+    match offer_packet(gateway, moment, iface, packet) {
+        Ok(taken) => Ok(taken),
+        // Taken apart, so that a packet that is taken at once needs no place in memory for this.
+        Err(fault) => match retake_packet(fault, gateway, moment, iface, packet) {
+            Ok(taken) => Ok(taken),
+            Err(fault) => Err(fault),
+        },
+    }
+}
+
+// Takes a packet that was refused with this fault: where there was no room for its answer or its entries, behind a
+// settlement, and behind a compaction where there still is none for its entries.
+#[inline(never)]
+fn retake_packet<D: Disk + Drop>(
+    fault: GatewayFault,
+    gateway: &mut Gateway<D>,
+    moment: u64,
+    iface: Iface,
+    packet: &mut [u8],
+) -> Result<GivenInPlace, GatewayFault>
+    requires refused { fault ≢ GatewayFault.Full → fault ≢ GatewayFault.HeldFull
+        → Fails D.honest D.moment D.left D.failed gateway.old gateway.old
+        (record { moment = moment; what = Packet iface packet.old } ∷ []) fault }
+    requires stands { gateway.old.fallen ≡ false }
+    requires in_place { gateway.old.in_place ≡ true }
+    requires short { length packet.old ≤ 65535 }
+    ensures ok { IfOk result (λ taken. Proceeds D.honest D.moment D.left D.failed
+        gateway.old gateway.new
+        (record { moment = moment; what = Packet iface packet.old } ∷ [])
+        (answer_given taken packet.new ∷ [])) }
+    ensures now { IfOk result (λ taken. IsNow (given_by taken packet.new)
+        → gateway.new.told.held ≡ []) }
+    ensures err { IfErr result (λ e. Fails D.honest D.moment D.left D.failed
+        gateway.old gateway.new
+        (record { moment = moment; what = Packet iface packet.old } ∷ []) e) }
+    ensures untouched { OnErr result (packet.new ≡ packet.old) }
+    ensures any_moment { (before : List (ℕ × Answer))
+        → SafeWithin D.honest D.moment D.left D.failed gateway.old gateway.new before }
+    ensures stands { OnOk result (gateway.new.fallen ≡ false) }
+    ensures in_place { gateway.new.in_place ≡ true }
+    ensures length { length packet.new ≡ length packet.old }
+{
+    if !lacks_room(fault) {
+        return Err(fault);
+    }
     settle_held_full(gateway)?;
     match offer_packet(gateway, moment, iface, packet) {
         Ok(taken) => Ok(taken),
@@ -65,6 +110,13 @@ pub fn take_packet<D: Disk + Drop>(
             Err(fault)
         }
     }
+}
+
+// Whether there was no room for an answer or for entries.
+fn lacks_room(fault: GatewayFault) -> bool
+    ensures { result ≡ false → (fault ≢ GatewayFault.Full) × (fault ≢ GatewayFault.HeldFull) }
+{
+    matches!(fault, GatewayFault::Full | GatewayFault::HeldFull)
 }
 
 // Settles and compacts; then there is room for the packet, and it is taken.
@@ -265,7 +317,7 @@ fn make_room<D: Disk + Drop>(gateway: &mut Gateway<D>) -> Result<(), GatewayFaul
     Ok(())
 }
 
-// Has the gateway take a packet, where fewer than 64 answers are held.
+// Has the gateway take a packet.
 #[inline(always)]
 fn offer_packet<D: Disk + Drop>(
     gateway: &mut Gateway<D>,
@@ -274,7 +326,6 @@ fn offer_packet<D: Disk + Drop>(
     packet: &mut [u8],
 ) -> Result<GivenInPlace, GatewayFault>
     requires stands { gateway.old.fallen ≡ false }
-    requires few { length gateway.old.told.held < 64 }
     requires short { length packet.old ≤ 65535 }
     ensures ok { IfOk result (λ taken. Proceeds D.honest D.moment D.left D.failed
         gateway.old gateway.new
@@ -283,10 +334,11 @@ fn offer_packet<D: Disk + Drop>(
     ensures now { IfOk result (λ taken. IsNow (given_by taken packet.new)
         → gateway.new.told.held ≡ []) }
     ensures err { IfErr result (λ e. (gateway.new ≡ gateway.old) × (packet.new ≡ packet.old)
-        × (e ≢ GatewayFault.Full
+        × (e ≢ GatewayFault.Full → e ≢ GatewayFault.HeldFull
         → Fails D.honest D.moment D.left D.failed gateway.old gateway.new
         (record { moment = moment; what = Packet iface packet.old } ∷ []) e)
-        × (IsRoomy gateway.old.filled → e ≢ GatewayFault.Full)) }
+        × (IsRoomy gateway.old.filled → e ≢ GatewayFault.Full)
+        × (length gateway.old.told.held < 64 → e ≢ GatewayFault.HeldFull)) }
     ensures any_moment { (before : List (ℕ × Answer))
         → SafeWithin D.honest D.moment D.left D.failed gateway.old gateway.new before }
     ensures stands { gateway.new.fallen ≡ false }

@@ -42,8 +42,15 @@ pub fn answer_request<D: Disk + Drop>(
 {
     match kind {
         Kind::Packet(iface) => answer_packet(bytes, iface, moment, gateway),
-        Kind::Load => answer_load(bytes, moment, gateway),
-        Kind::Moment => answer_moment(bytes, moment, gateway),
+        // These are taken apart, so that the answer to a packet needs no place in memory.
+        Kind::Load => match answer_load(bytes, moment, gateway) {
+            Ok(len) => Ok(len),
+            Err(fault) => Err(fault),
+        },
+        Kind::Moment => match answer_moment(bytes, moment, gateway) {
+            Ok(len) => Ok(len),
+            Err(fault) => Err(fault),
+        },
     }
 }
 

@@ -2,7 +2,7 @@ use Rattle.std.proofs.Common.{[], ap}
 use Rattle.std.proofs.lemmas.Result.{IfOk-weaker}
 use Rattle.gateway.specs.Kept.{Kept}
 use Rattle.gateway.proofs.Proceeding.{err-both, fails-refused, none-taken, proceeds-taken}
-use Rattle.gateway.proofs.Runs.{still-within}
+use Rattle.gateway.proofs.Runs.{few-fit, still-within}
 use Rattle.gateway.proofs.in_place.offer_event.Goals as goal
 
 pub returns-clause-ok : goal.returns-clause-ok
@@ -24,7 +24,7 @@ returns-clause-err g c =
       still.0,
       still.1,
       (λ full. fails-refused g.D.Disk.honest g.D.Disk.moment g.D.Disk.left g.D.Disk.seen g.D.Disk.failed g.met.D.Disk.reads g.met.D.Disk.earlier c.args.gateway.now c.take_event.new.self c.args.event
-          why.1 c.requires.few still.1 refused full),
+          why.1 (few-fit c.args.gateway.now why.1 c.requires.few refused.held_full) still.1 refused full),
       refused.roomy,
     ))
 

@@ -4,7 +4,7 @@ use Rattle.machine.specs.declared.event.Event.{Event}
 use Rattle.machine.specs.declared.event.What.TheVariants.{Packet}
 use Rattle.gateway.specs.Kept.{Kept}
 use Rattle.gateway.proofs.Proceeding.{err-both, fails-refused, none-taken, proceeds-taken}
-use Rattle.gateway.proofs.Runs.{still-within}
+use Rattle.gateway.proofs.Runs.{few-fit, still-within}
 use Rattle.gateway.proofs.in_place.offer_packet.Goals as goal
 
 pub returns-clause-ok : goal.returns-clause-ok
@@ -28,9 +28,10 @@ returns-clause-err g c =
     err-both _ _ _ c.take_packet.result e.err e.why (λ why still refused. (
       still.0,
       still.1,
-      (λ full. fails-refused g.D.Disk.honest g.D.Disk.moment g.D.Disk.left g.D.Disk.seen g.D.Disk.failed g.met.D.Disk.reads g.met.D.Disk.earlier c.args.gateway.now c.take_packet.new.self event
-          why c.requires.few still.0 refused full),
+      (λ full some. fails-refused g.D.Disk.honest g.D.Disk.moment g.D.Disk.left g.D.Disk.seen g.D.Disk.failed g.met.D.Disk.reads g.met.D.Disk.earlier c.args.gateway.now c.take_packet.new.self event
+          why some still.0 refused full),
       refused.roomy,
+      (λ few. few-fit c.args.gateway.now why few refused.held_full),
     ))
 
 pub returns-clause-any_moment : goal.returns-clause-any_moment

@@ -1,4 +1,4 @@
-use Rattle.std.proofs.Common.{[], ◌∷◌}
+use Rattle.std.proofs.Common.{[], ◌∷◌, ap, length, arith}
 use Rattle.std.proofs.lemmas.Result.{IfErr-weaker, IfOk-weaker, err_from_is_err_and}
 use Rattle.machine.specs.declared.event.Event.{Event}
 use Rattle.machine.specs.declared.event.What.TheVariants.{Packet}
@@ -24,7 +24,7 @@ returns-clause-err g c =
     let r = c.in_ok-make_room.ensures in
     IfErr-weaker c.offer_packet.result _ _ (λ why refused.
     fails-then g.D.Disk.honest g.D.Disk.moment g.D.Disk.left g.D.Disk.failed c.args.gateway.now c.make_room.new.gateway c.offer_packet.new.gateway
-    r.ok _ why r.state r.last (refused.2 (refused.3 r.roomy)))
+    r.ok _ why r.state r.last (refused.2 (refused.3 r.roomy) (refused.4 (omega (arith, ap length r.none)))))
     c.offer_packet.ensures.err
 
 pub returns-clause-any_moment : goal.returns-clause-any_moment

@@ -2,7 +2,7 @@ use Rattle.std.proofs.Common.{◌++◌, ◌∷◌, [], List, ℕ, sym, subst}
 use Rattle.std.proofs.lemmas.Result.{err_from_is_err_and}
 use Rattle.machine.specs.declared.event.Answer.{Answer}
 use Rattle.gateway.specs.Running.{Stands, Ends}
-use Rattle.gateway.proofs.Runs.{ended, offered, offer-why, breaks-here, still-within}
+use Rattle.gateway.proofs.Runs.{ended, few-fit, offered, offer-why, breaks-here, still-within}
 use Rattle.gateway.proofs.running.offer.Goals as goal
 
 pub returns-in_err-given-clause-why : goal.returns-in_err-given-clause-why
@@ -14,7 +14,7 @@ returns-in_err-given-clause-why g c =
       ends = subst (λ n. Ends g.D.Disk.honest g.D.Disk.moment g.D.Disk.left g.D.Disk.failed start n events c.args.answers.now.items) (sym e.err.1)
           (ended g.D.Disk.honest g.D.Disk.moment g.D.Disk.left g.D.Disk.seen g.D.Disk.failed g.met.D.Disk.reads g.met.D.Disk.earlier start c.args.gateway.now events c.args.answers.now.items s);
       is_why = offer-why g.D.Disk.honest g.D.Disk.moment g.D.Disk.left g.D.Disk.seen g.D.Disk.failed g.met.D.Disk.reads g.met.D.Disk.earlier start
-          c.args.gateway.now events c.args.answers.now.items s c.offer.new.self c.in_err-given.field-0.0.1 e.err.1 c.requires.few e.reopen e.numbers_out e.held_full e.causes full;
+          c.args.gateway.now events c.args.answers.now.items s c.offer.new.self c.in_err-given.field-0.0.1 e.err.1 (few-fit c.args.gateway.now _ c.requires.few e.held_full) e.reopen e.numbers_out e.causes full;
       stays = λ other. subst (λ n. Stands g.D.Disk.honest g.D.Disk.moment g.D.Disk.left g.D.Disk.failed start n events c.args.answers.now.items) (sym e.err.1) s;
     }))
 

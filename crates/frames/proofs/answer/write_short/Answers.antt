@@ -6,10 +6,10 @@ use Rattle.machine.specs.declared.event.Answer.TheVariants.{Loaded, Refused, Tic
 use Rattle.machine.specs.declared.event.Fate.{Fate}
 use Rattle.frames.specs.Answers.{frame}
 use Rattle.frames.proofs.Parts.{frame_alone}
-use Rattle.frames.proofs.answer.write_front.Goals as goal
+use Rattle.frames.proofs.answer.write_short.Goals as goal
 
 pub returns-in-Dropped-clause-frame : goal.returns-in-Dropped-clause-frame
-returns-in-Dropped-clause-frame c = λ packet size.
+returns-in-Dropped-clause-frame c = λ packet.
     let it = c.copy_from_slice-in-Dropped in
     let front = it.new.self in
     let long : length front ≡ 14 = it.ensures.len ∙ c.requires.size in
@@ -17,19 +17,19 @@ returns-in-Dropped-clause-frame c = λ packet size.
     ∙ ap (λ (f : Fate). frame (c.args.number, answer_of f packet)) (sym c.in-Dropped.is)
 
 pub returns-in-Loaded-clause-frame : goal.returns-in-Loaded-clause-frame
-returns-in-Loaded-clause-frame c = λ packet size.
+returns-in-Loaded-clause-frame c = λ packet.
     let it = c.write_bare in
     let within : it.result ≤ length it.new.front = omega (arith, it.ensures.size, it.ensures.length, c.requires.size) in
     take-append-le it.result it.new.front packet within ∙ it.ensures.frame ∙ frame_alone (c.args.number, Loaded) refl ∙ ap (λ (f : Fate). frame (c.args.number, answer_of f packet)) (sym c.in-Loaded.is)
 
 pub returns-in-Refused-clause-frame : goal.returns-in-Refused-clause-frame
-returns-in-Refused-clause-frame c = λ packet size.
+returns-in-Refused-clause-frame c = λ packet.
     let it = c.write_bare-in-Refused in
     let within : it.result ≤ length it.new.front = omega (arith, it.ensures.size, it.ensures.length, c.requires.size) in
     take-append-le it.result it.new.front packet within ∙ it.ensures.frame ∙ frame_alone (c.args.number, Refused) refl ∙ ap (λ (f : Fate). frame (c.args.number, answer_of f packet)) (sym c.in-Refused.is)
 
 pub returns-in-Ticked-clause-frame : goal.returns-in-Ticked-clause-frame
-returns-in-Ticked-clause-frame c = λ packet size.
+returns-in-Ticked-clause-frame c = λ packet.
     let it = c.write_bare-in-Ticked in
     let within : it.result ≤ length it.new.front = omega (arith, it.ensures.size, it.ensures.length, c.requires.size) in
     take-append-le it.result it.new.front packet within ∙ it.ensures.frame ∙ frame_alone (c.args.number, Ticked) refl ∙ ap (λ (f : Fate). frame (c.args.number, answer_of f packet)) (sym c.in-Ticked.is)
