@@ -21,7 +21,7 @@ use Rattle.refusals.specs.declared.refusal.Refusal.{Refusal}
 use Rattle.refusals.specs.declared.refusal.Refusal.TheVariants as refusal
 use Rattle.refusals.specs.declared.stop.Stop.{Stop}
 use Rattle.commands.specs.Faults.{IsOfGateway}
-use Rattle.commands.specs.Visits.{EndHasCause, EndsService, GoesOn, Idles, Meeting, MeetsNone, ServiceEnds, SomeUnseenVisits, SomeVisits, UnseenVisits, Visit, Visits}
+use Rattle.commands.specs.Visits.{EndHasCause, EndsService, GoesOn, Idles, MeetsNone, ServiceEnds, SomeUnseenVisits, SomeVisits, UnseenVisits, Visit, Visits}
 
 -- ---- between two clients
 
