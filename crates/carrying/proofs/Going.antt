@@ -22,11 +22,11 @@ use Rattle.carrying.proofs.Joined.{AsksFor-nil, all_long, asked-then, events-the
 use Rattle.carrying.proofs.Taken.{each-first, each-then, takes-as}
 use Rattle.carrying.proofs.Stopping.{Trail, comes-end, comes-on, trail-first, trail-then}
 
--- what is said of all that was given may be said of what came before, too
-abbrev pub Then : (Frames → List (List ℕ) → Type 0) → Type 0
-Then P = (a b : Frames) (x y : List (List ℕ)) → Gives a b x → P b y → P a (x ++ y)
+-- What is said of the packets that one more turn took of a device may be said of all since the first turn.
+abbrev pub Then : (ℕ → List (List ℕ) → Type 0) → (List Turn → List (List ℕ)) → ℕ → Frames → Frames → List (List ℕ) → Type 0 → Type 0
+Then P from done old now more A = (turns : List Turn) → length turns ≡ done → Gives old now (from turns) → A → P (length turns + 1) (from turns ++ more)
 
-module _ {D : Type 0} (honest : D → Type 0) (moment : D → ℕ) (left : D → ℕ → Files → Type 0) (P Q : Frames → List (List ℕ) → Type 0) where
+module _ {D : Type 0} (honest : D → Type 0) (moment : D → ℕ) (left : D → ℕ → Files → Type 0) (P Q : ℕ → List (List ℕ) → Type 0) where
   module _ (start now : Kept D) (last at done : ℕ) (asks asks' : Asks) (lan lan' wan wan' : Frames) (lan_handed lan_handed' wan_handed wan_handed' : Frames) where
     -- so many turns were carried, and more may come
     pub record Going : Type 0 where
@@ -35,7 +35,7 @@ module _ {D : Type 0} (honest : D → Type 0) (moment : D → ℕ) (left : D →
       pub asked : AsksFor asks asks' (map asked_of turns)
       pub gave_lan : Gives lan lan' (from_lan turns)
       pub gave_wan : Gives wan wan' (from_wan turns)
-      pub takes : EachTakesAll last (P lan) (Q wan) turns
+      pub takes : EachTakesAll last P Q turns
       pub moment_is : at ≡ last_of last turns
       pub stands : now.fallen ≡ false
       pub trail : Trail honest moment left start now last turns (all_events last turns) (all_headers last turns) lan_handed lan_handed' wan_handed wan_handed'
@@ -50,7 +50,7 @@ module _ {D : Type 0} (honest : D → Type 0) (moment : D → ℕ) (left : D →
     asked = AsksFor-nil asks;
     gave_lan = Gives-nil lan;
     gave_wan = Gives-nil wan;
-    takes = each-first last (P lan) (Q wan);
+    takes = each-first last P Q;
     moment_is = refl;
     stands = stands;
     trail =
@@ -65,19 +65,19 @@ module _ {D : Type 0} (honest : D → Type 0) (moment : D → ℕ) (left : D →
         });
   }
 
-  module _ (earlier : (disk : D) (s t : ℕ) (files : Files) → s ≤ t → left disk t files → left disk s files) (start now new : Kept D) (stood : start.fallen ≡ false) (none : start.told.held ≡ []) (more-lan : Then P) (more-wan : Then Q) where
+  module _ (earlier : (disk : D) (s t : ℕ) (files : Files) → s ≤ t → left disk t files → left disk s files) (start now new : Kept D) (stood : start.fallen ≡ false) (none : start.told.held ≡ []) where
     -- the turns behind which one more takes all
-    takes-next : (last at : ℕ) (ts : List Turn) (turn : Turn) (l l' w w' : Frames) → at ≡ last_of last ts → EachTakesAll last (P l) (Q w) ts → Gives l l' (from_lan ts) → Gives w w' (from_wan ts)
-        → TakesAll at turn (P l' turn.lan) (Q w' turn.wan) → EachTakesAll last (P l) (Q w) (ts ++ turn ∷ [])
-    takes-next last at ts turn l l' w w' is all lan wan one =
-        each-then last (P l) (Q w) ts turn all
-        (takes-as (last_of last ts) turn (P l' turn.lan) (Q w' turn.wan) (P l (from_lan ts ++ turn.lan)) (Q w (from_wan ts ++ turn.wan)) (λ p. more-lan l l' (from_lan ts) turn.lan lan p) (λ q. more-wan w w' (from_wan ts) turn.wan wan q)
-        (subst (λ (m : ℕ). TakesAll m turn (P l' turn.lan) (Q w' turn.wan)) is one))
+    takes-next : (last at done : ℕ) (ts : List Turn) (turn : Turn) (l l' w w' : Frames) (A B : Type 0) → at ≡ last_of last ts → length ts ≡ done → EachTakesAll last P Q ts → Gives l l' (from_lan ts) → Gives w w' (from_wan ts)
+        → Then P from_lan done l l' turn.lan A → Then Q from_wan done w w' turn.wan B → TakesAll at turn A B → EachTakesAll last P Q (ts ++ turn ∷ [])
+    takes-next last at done ts turn l l' w w' A B is count all lan wan more-lan more-wan one =
+        each-then last P Q ts turn all
+        (takes-as (last_of last ts) turn A B (P (length ts + 1) (from_lan ts ++ turn.lan)) (Q (length ts + 1) (from_wan ts ++ turn.wan)) (more-lan ts count lan) (more-wan ts count wan)
+        (subst (λ (m : ℕ). TakesAll m turn A B) is one))
 
     -- one more
-    pub going-next : EventsAreJudgedOnce → (last at at' done : ℕ) (turn : Turn) (a a' a'' : Asks) (l l' l'' w w' w'' k k' k'' v v' v'' : Frames) → Going start now last at done a a' l l' w w' k k' v v' → AsksFor a' a'' (asked_of turn ∷ []) → Gave turn l' l'' w' w'' → TakesAll at turn (P l' turn.lan) (Q w' turn.wan) → at' ≡ later at turn.moment
+    pub going-next : EventsAreJudgedOnce → (last at at' done : ℕ) (turn : Turn) (a a' a'' : Asks) (l l' l'' w w' w'' k k' k'' v v' v'' : Frames) (A B : Type 0) → Then P from_lan done l l' turn.lan A → Then Q from_wan done w w' turn.wan B → Going start now last at done a a' l l' w w' k k' v v' → AsksFor a' a'' (asked_of turn ∷ []) → Gave turn l' l'' w' w'' → TakesAll at turn A B → at' ≡ later at turn.moment
         → new.fallen ≡ false → Carries honest moment left now new (events_of at turn) (headers_of at turn) k' k'' v' v'' → Going start new last at' (done + 1) a a'' l l'' w w'' k k'' v v''
-    going-next once last at at' done turn a a' a'' l l' l'' w w' w'' k k' k'' v v' v'' i asked gave takes is stands c =
+    going-next once last at at' done turn a a' a'' l l' l'' w w' w'' k k' k'' v v' v'' A B more-lan more-wan i asked gave takes is stands c =
         let there : last_of last i.turns ≡ at = sym i.moment_is in
         let one : Carries honest moment left now new (events_of (last_of last i.turns) turn) (headers_of (last_of last i.turns) turn) k' k'' v' v'' =
         subst (λ (m : ℕ). Carries honest moment left now new (events_of m turn) (headers_of m turn) k' k'' v' v'') i.moment_is c in
@@ -87,7 +87,7 @@ module _ {D : Type 0} (honest : D → Type 0) (moment : D → ℕ) (left : D →
           asked = asked-then a a' a'' i.turns turn i.asked asked;
           gave_lan = rw (lan-then i.turns turn) (Gives-then l l' l'' _ _ i.gave_lan gave.from_lan);
           gave_wan = rw (wan-then i.turns turn) (Gives-then w w' w'' _ _ i.gave_wan gave.from_wan);
-          takes = takes-next last at i.turns turn l l' w w' i.moment_is i.takes i.gave_lan i.gave_wan takes;
+          takes = takes-next last at done i.turns turn l l' w w' A B i.moment_is i.count i.takes i.gave_lan i.gave_wan more-lan more-wan takes;
           moment_is = is ∙ ap (λ (m : ℕ). later m turn.moment) i.moment_is ∙ sym (last-then last i.turns turn);
           stands = stands;
           trail = rw (events-then last i.turns turn, headers-then last i.turns turn)
@@ -96,10 +96,10 @@ module _ {D : Type 0} (honest : D → Type 0) (moment : D → ℕ) (left : D →
         }
 
     -- and one that failed
-    pub ran-fails : (last at done : ℕ) (fault : EdgeFault) (turn : Turn) (a a' a'' : Asks) (l l' l'' w w' w'' k k' k'' v v' v'' : Frames) → Going start now last at done a a' l l' w w' k k' v v' → AsksFor a' a'' (asked_of turn ∷ []) → Gave turn l' l'' w' w'' → TakesAll at turn (P l' turn.lan) (Q w' turn.wan)
+    pub ran-fails : (last at done : ℕ) (fault : EdgeFault) (turn : Turn) (a a' a'' : Asks) (l l' l'' w w' w'' k k' k'' v v' v'' : Frames) (A B : Type 0) → Then P from_lan done l l' turn.lan A → Then Q from_wan done w w' turn.wan B → Going start now last at done a a' l l' w w' k k' v v' → AsksFor a' a'' (asked_of turn ∷ []) → Gave turn l' l'' w' w'' → TakesAll at turn A B
         → Fails honest moment left now new (events_of at turn) k' k'' v' v''
-        → (run : Ran honest moment left start new (Err fault) last a a'' l l'' w w'' k k'' v v'') × (run.settled ≡ now) × EachTakesAll last (P l) (Q w) (run.turns ++ run.failed)
-    ran-fails last at done fault turn a a' a'' l l' l'' w w' w'' k k' k'' v v' v'' i asked gave takes f =
+        → (run : Ran honest moment left start new (Err fault) last a a'' l l'' w w'' k k'' v v'') × (run.settled ≡ now) × EachTakesAll last P Q (run.turns ++ run.failed)
+    ran-fails last at done fault turn a a' a'' l l' l'' w w' w'' k k' k'' v v' v'' A B more-lan more-wan i asked gave takes f =
         let fares : Fares honest moment left now new (events_of (last_of last i.turns) turn) f.sent =
         subst (λ (m : ℕ). Fares honest moment left now new (events_of m turn) f.sent) i.moment_is f.fares in (
           record {
@@ -125,12 +125,12 @@ module _ {D : Type 0} (honest : D → Type 0) (moment : D → ℕ) (left : D →
                 (events_of (last_of last i.turns) turn) f.sent k'' v'' fares f.to_lan f.to_wan);
           },
           refl,
-          takes-next last at i.turns turn l l' w w' i.moment_is i.takes i.gave_lan i.gave_wan takes,
+          takes-next last at done i.turns turn l l' w w' A B i.moment_is i.count i.takes i.gave_lan i.gave_wan more-lan more-wan takes,
         )
 
   -- they ended well
   pub ran-ends : (start now : Kept D) (last at done : ℕ) (a a' : Asks) (l l' w w' k k' v v' : Frames) → Going start now last at done a a' l l' w w' k k' v v' → IsOver a' ⊎ (done ≡ 2 ^ 64 - 1)
-      → (run : Ran honest moment left start now (Ok tt) last a a' l l' w w' k k' v v') × EachTakesAll last (P l) (Q w) (run.turns ++ run.failed)
+      → (run : Ran honest moment left start now (Ok tt) last a a' l l' w w' k k' v v') × EachTakesAll last P Q (run.turns ++ run.failed)
   ran-ends start now last at done a a' l l' w w' k k' v v' i over = (
     record {
       turns = i.turns;

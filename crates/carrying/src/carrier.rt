@@ -76,11 +76,13 @@ fn gather<L: Device, W: Device>(
         (W.coming devices.old.wan) (W.coming devices.new.wan)
         × (from.new ≡ gathered turn from.old)
         × TakesAll from.old.told turn
-        (GaveAll L.coming L.has_none (L.coming devices.old.lan) turn.lan)
-        (GaveAll W.coming W.has_none (W.coming devices.old.wan) turn.wan) }
+        (GaveAll L.coming L.waited L.has_none devices.old.lan 0 turn.lan)
+        (GaveAll W.coming W.waited W.has_none devices.old.wan 0 turn.wan) }
     ensures fits { later from.old.told moment < 2 ^ 64 }
     ensures to_lan { L.handed devices.new.lan ≡ L.handed devices.old.lan }
     ensures to_wan { W.handed devices.new.wan ≡ W.handed devices.old.wan }
+    ensures lan_waited { L.waited devices.new.lan ≡ L.waited devices.old.lan }
+    ensures wan_waited { W.waited devices.new.wan ≡ W.waited devices.old.wan }
 {
     open_turn(from, moment, text);
     let _ = from.moment();
@@ -173,9 +175,11 @@ impl Carrier {
             (L.handed devices.old.lan) (L.handed devices.new.lan)
             (W.handed devices.old.wan) (W.handed devices.new.wan)
             × TakesAll self.old turn
-            (GaveAll L.coming L.has_none (L.coming devices.old.lan) turn.lan)
-            (GaveAll W.coming W.has_none (W.coming devices.old.wan) turn.wan) }
+            (GaveAll L.coming L.waited L.has_none devices.old.lan 0 turn.lan)
+            (GaveAll W.coming W.waited W.has_none devices.old.wan 0 turn.wan) }
         ensures latest { self.new ≡ later self.old moment }
+        ensures lan_waited { L.waited devices.new.lan ≡ L.waited devices.old.lan }
+        ensures wan_waited { W.waited devices.new.wan ≡ W.waited devices.old.wan }
         ensures rests { OnOk result (gateway.new.told.held ≡ []) }
         ensures stands { OnOk result (gateway.new.fallen ≡ false) }
         ensures why { IfErr result (λ e. Explains D.honest D.moment D.left D.failed e gateway.old
@@ -212,9 +216,11 @@ impl Carrier {
             (L.handed devices.old.lan) (L.handed devices.new.lan)
             (W.handed devices.old.wan) (W.handed devices.new.wan)
             × TakesAll self.old turn
-            (GaveAll L.coming L.has_none (L.coming devices.old.lan) turn.lan)
-            (GaveAll W.coming W.has_none (W.coming devices.old.wan) turn.wan) }
+            (GaveAll L.coming L.waited L.has_none devices.old.lan 0 turn.lan)
+            (GaveAll W.coming W.waited W.has_none devices.old.wan 0 turn.wan) }
         ensures latest { self.new ≡ later self.old beat.now.moment }
+        ensures lan_waited { L.waited devices.new.lan ≡ L.waited devices.old.lan }
+        ensures wan_waited { W.waited devices.new.wan ≡ W.waited devices.old.wan }
         ensures stands { OnOk result (gateway.new.fallen ≡ false) }
         ensures why { IfErr result (λ e. Explains D.honest D.moment D.left D.failed e gateway.old
             gateway.new) }
@@ -249,8 +255,8 @@ impl Carrier {
             (W.handed devices.old.wan) (W.handed devices.new.wan))
             × IfErr result (λ e. Explains D.honest D.moment D.left D.failed e run.settled gateway.new)
             × EachTakesAll self.old
-            (GaveAll L.coming L.has_none (L.coming devices.old.lan))
-            (GaveAll W.coming W.has_none (W.coming devices.old.wan)) (run.turns ++ run.failed) }
+            (GaveAll L.coming L.waited L.has_none devices.old.lan)
+            (GaveAll W.coming W.waited W.has_none devices.old.wan) (run.turns ++ run.failed) }
     {
         stands(gateway);
         events_are_judged_once();
