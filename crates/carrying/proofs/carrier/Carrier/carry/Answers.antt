@@ -13,12 +13,13 @@ use Rattle.carrying.proofs.carrier.Carrier.carry.Goals as goal
 
 pub loop-turn-init : goal.loop-turn-init
 loop-turn-init g c =
-    let d = c.args.devices.now in
-    (going-first g.D.Disk.honest g.D.Disk.moment g.D.Disk.left (GaveAll g.L.Device.coming g.L.Device.waited g.L.Device.has_none d.lan) (GaveAll g.W.Device.coming g.W.Device.waited g.W.Device.has_none d.wan) g.met.D.Disk.earlier c.events_are_judged_once.ensures c.args.gateway.now c.args.self.now (g.P.Pace.asks c.args.pace.now)
-    (g.L.Device.coming d.lan) (g.W.Device.coming d.wan) (g.L.Device.handed d.lan) (g.W.Device.handed d.wan) c.requires.stands c.requires.none
-    (idle-fares g.D.Disk.honest g.D.Disk.moment g.D.Disk.left g.D.Disk.seen g.D.Disk.failed g.met.D.Disk.reads g.met.D.Disk.earlier c.args.gateway.now c.stands.ensures []),
-    Waits-same (g.L.Device.waited d.lan) (g.L.Device.waited d.lan) refl,
-    Waits-same (g.W.Device.waited d.wan) (g.W.Device.waited d.wan) refl)
+    let d = c.args.devices.now in (
+      going-first g.D.Disk.honest g.D.Disk.moment g.D.Disk.left (GaveAll g.L.Device.coming g.L.Device.waited g.L.Device.has_none d.lan) (GaveAll g.W.Device.coming g.W.Device.waited g.W.Device.has_none d.wan) g.met.D.Disk.earlier c.events_are_judged_once.ensures c.args.gateway.now c.args.self.now (g.P.Pace.asks c.args.pace.now)
+          (g.L.Device.coming d.lan) (g.W.Device.coming d.wan) (g.L.Device.handed d.lan) (g.W.Device.handed d.wan) c.requires.stands c.requires.none
+          (idle-fares g.D.Disk.honest g.D.Disk.moment g.D.Disk.left g.D.Disk.seen g.D.Disk.failed g.met.D.Disk.reads g.met.D.Disk.earlier c.args.gateway.now c.stands.ensures []),
+      Waits-same (g.L.Device.waited d.lan) (g.L.Device.waited d.lan) refl,
+      Waits-same (g.W.Device.waited d.wan) (g.W.Device.waited d.wan) refl,
+    )
 
 pub returns-in_default : goal.returns-in_default
 returns-in_default g c =
@@ -70,17 +71,18 @@ loop-turn-preserved g c =
     let takes : TakesAll c.loop-turn.self t.0 (GaveAll g.L.Device.coming g.L.Device.waited g.L.Device.has_none b.lan 0 t.0.lan) (GaveAll g.W.Device.coming g.W.Device.waited g.W.Device.has_none b.wan 0 t.0.wan) = t.5 in
     let carries : Carries g.D.Disk.honest g.D.Disk.moment g.D.Disk.left c.loop-turn.gateway c.turn_at.new.gateway (events_of c.loop-turn.self t.0) (headers_of c.loop-turn.self t.0)
     (g.L.Device.handed e.lan) (g.L.Device.handed f.lan) (g.W.Device.handed e.wan) (g.W.Device.handed f.wan) = rw (← n.to_lan, ← n.to_wan) t.4 in
-    let at : c.turn_at.new.self ≡ later c.loop-turn.self t.0.moment = c.turn_at.ensures.latest ∙ ap (λ (m : ℕ). later c.loop-turn.self m) (sym t.1) in
-    (going-next g.D.Disk.honest g.D.Disk.moment g.D.Disk.left (GaveAll g.L.Device.coming g.L.Device.waited g.L.Device.has_none d.lan) (GaveAll g.W.Device.coming g.W.Device.waited g.W.Device.has_none d.wan) g.met.D.Disk.earlier c.args.gateway.now c.loop-turn.gateway c.turn_at.new.gateway c.requires.stands c.requires.none c.events_are_judged_once.ensures c.args.self.now c.loop-turn.self c.turn_at.new.self c.loop-turn._turn t.0
-    (g.P.Pace.asks c.args.pace.now) (g.P.Pace.asks c.loop-turn.pace) (g.P.Pace.asks c.next.new.self)
-    (g.L.Device.coming d.lan) (g.L.Device.coming e.lan) (g.L.Device.coming f.lan) (g.W.Device.coming d.wan) (g.W.Device.coming e.wan) (g.W.Device.coming f.wan)
-    (g.L.Device.handed d.lan) (g.L.Device.handed e.lan) (g.L.Device.handed f.lan) (g.W.Device.handed d.wan) (g.W.Device.handed e.wan) (g.W.Device.handed f.wan)
-    (GaveAll g.L.Device.coming g.L.Device.waited g.L.Device.has_none b.lan 0 t.0.lan) (GaveAll g.W.Device.coming g.W.Device.waited g.W.Device.has_none b.wan 0 t.0.wan)
-    (λ turns count gave all. GaveAll-then g.L.Device.coming g.L.Device.waited g.L.Device.has_none d.lan e.lan b.lan c.loop-turn._turn (length turns) (from_lan turns) t.0.lan count gave n.from_lan c.loop-turn.invariant.1 n.lan_waits all)
-    (λ turns count gave all. GaveAll-then g.W.Device.coming g.W.Device.waited g.W.Device.has_none d.wan e.wan b.wan c.loop-turn._turn (length turns) (from_wan turns) t.0.wan count gave n.from_wan c.loop-turn.invariant.2 n.wan_waits all)
-    c.loop-turn.invariant.0 asked gave takes at c.in-Ok.ensures.stands carries,
-    Waits-on c.loop-turn._turn (g.L.Device.waited d.lan) (g.L.Device.waited e.lan) (g.L.Device.waited b.lan) (g.L.Device.waited f.lan) c.loop-turn.invariant.1 n.lan_waits c.turn_at.ensures.lan_waited,
-    Waits-on c.loop-turn._turn (g.W.Device.waited d.wan) (g.W.Device.waited e.wan) (g.W.Device.waited b.wan) (g.W.Device.waited f.wan) c.loop-turn.invariant.2 n.wan_waits c.turn_at.ensures.wan_waited)
+    let at : c.turn_at.new.self ≡ later c.loop-turn.self t.0.moment = c.turn_at.ensures.latest ∙ ap (λ (m : ℕ). later c.loop-turn.self m) (sym t.1) in (
+      going-next g.D.Disk.honest g.D.Disk.moment g.D.Disk.left (GaveAll g.L.Device.coming g.L.Device.waited g.L.Device.has_none d.lan) (GaveAll g.W.Device.coming g.W.Device.waited g.W.Device.has_none d.wan) g.met.D.Disk.earlier c.args.gateway.now c.loop-turn.gateway c.turn_at.new.gateway c.requires.stands c.requires.none c.events_are_judged_once.ensures c.args.self.now c.loop-turn.self c.turn_at.new.self c.loop-turn._turn t.0
+          (g.P.Pace.asks c.args.pace.now) (g.P.Pace.asks c.loop-turn.pace) (g.P.Pace.asks c.next.new.self)
+          (g.L.Device.coming d.lan) (g.L.Device.coming e.lan) (g.L.Device.coming f.lan) (g.W.Device.coming d.wan) (g.W.Device.coming e.wan) (g.W.Device.coming f.wan)
+          (g.L.Device.handed d.lan) (g.L.Device.handed e.lan) (g.L.Device.handed f.lan) (g.W.Device.handed d.wan) (g.W.Device.handed e.wan) (g.W.Device.handed f.wan)
+          (GaveAll g.L.Device.coming g.L.Device.waited g.L.Device.has_none b.lan 0 t.0.lan) (GaveAll g.W.Device.coming g.W.Device.waited g.W.Device.has_none b.wan 0 t.0.wan)
+          (λ turns count gave all. GaveAll-then g.L.Device.coming g.L.Device.waited g.L.Device.has_none d.lan e.lan b.lan c.loop-turn._turn (length turns) (from_lan turns) t.0.lan count gave n.from_lan c.loop-turn.invariant.1 n.lan_waits all)
+          (λ turns count gave all. GaveAll-then g.W.Device.coming g.W.Device.waited g.W.Device.has_none d.wan e.wan b.wan c.loop-turn._turn (length turns) (from_wan turns) t.0.wan count gave n.from_wan c.loop-turn.invariant.2 n.wan_waits all)
+          c.loop-turn.invariant.0 asked gave takes at c.in-Ok.ensures.stands carries,
+      Waits-on c.loop-turn._turn (g.L.Device.waited d.lan) (g.L.Device.waited e.lan) (g.L.Device.waited b.lan) (g.L.Device.waited f.lan) c.loop-turn.invariant.1 n.lan_waits c.turn_at.ensures.lan_waited,
+      Waits-on c.loop-turn._turn (g.W.Device.waited d.wan) (g.W.Device.waited e.wan) (g.W.Device.waited b.wan) (g.W.Device.waited f.wan) c.loop-turn.invariant.2 n.wan_waits c.turn_at.ensures.wan_waited,
+    )
 
 pub returns : goal.returns
 returns g c =
