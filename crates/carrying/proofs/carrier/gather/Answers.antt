@@ -1,4 +1,4 @@
-use Rattle.std.proofs.Common.{◌≡◌, ◌⊎◌, refl, ap, subst, ◌∙◌, arith}
+use Rattle.std.proofs.Common.{◌≡◌, ◌⊎◌, length, refl, ap, subst, ◌∙◌, arith}
 use Rattle.devices.specs.Handing.{GaveAll}
 use Rattle.packet.specs.declared.endpoint.Iface.TheVariants.{Lan, Wan}
 use Rattle.from_devices.specs.Requests.{Gathered, begun, with_packets}
@@ -41,4 +41,5 @@ returns-clause-gave g c =
         few_of_lan = at_most Lan lan.0 c.open_turn.new.from c.take.new.self lan.3 c.take.ensures.few;
         few_of_wan = at_most Wan wan.0 c.take.new.self c.take-2.new.self wan.3 c.take-2.ensures.few;
       },
+      ap length c.headers-before.ensures ∙ ap (λ (x : Gathered). length x.headers) of_lan,
     )

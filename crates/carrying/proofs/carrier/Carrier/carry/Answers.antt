@@ -14,8 +14,8 @@ use Rattle.carrying.proofs.carrier.Carrier.carry.Goals as goal
 pub loop-turn-init : goal.loop-turn-init
 loop-turn-init g c =
     let d = c.args.devices.now in (
-      going-first g.D.Disk.honest g.D.Disk.moment g.D.Disk.left (GaveAll g.L.Device.coming g.L.Device.waited g.L.Device.has_none d.lan) (GaveAll g.W.Device.coming g.W.Device.waited g.W.Device.has_none d.wan) g.met.D.Disk.earlier c.events_are_judged_once.ensures c.args.gateway.now c.args.self.now (g.P.Pace.asks c.args.pace.now)
-          (g.L.Device.coming d.lan) (g.W.Device.coming d.wan) (g.L.Device.handed d.lan) (g.W.Device.handed d.wan) c.requires.stands c.requires.none
+      going-first g.D.Disk.honest g.D.Disk.moment g.D.Disk.left (GaveAll g.L.Device.coming g.L.Device.waited g.L.Device.has_none d.lan) (GaveAll g.W.Device.coming g.W.Device.waited g.W.Device.has_none d.wan) g.met.D.Disk.earlier c.events_are_judged_once.ensures c.args.gateway.now c.args.self.now.told (g.P.Pace.asks c.args.pace.now)
+          (g.L.Device.coming d.lan) (g.W.Device.coming d.wan) (g.L.Device.handed d.lan) (g.W.Device.handed d.wan) c.args.self.now.counts c.requires.stands c.requires.none
           (idle-fares g.D.Disk.honest g.D.Disk.moment g.D.Disk.left g.D.Disk.seen g.D.Disk.failed g.met.D.Disk.reads g.met.D.Disk.earlier c.args.gateway.now c.stands.ensures []),
       Waits-same (g.L.Device.waited d.lan) (g.L.Device.waited d.lan) refl,
       Waits-same (g.W.Device.waited d.wan) (g.W.Device.waited d.wan) refl,
@@ -27,11 +27,11 @@ returns-in_default g c =
     let e = c.loop-turn.devices in
     let over = c.in_default.ensures.over in
     let run =
-    ran-ends g.D.Disk.honest g.D.Disk.moment g.D.Disk.left (GaveAll g.L.Device.coming g.L.Device.waited g.L.Device.has_none d.lan) (GaveAll g.W.Device.coming g.W.Device.waited g.W.Device.has_none d.wan) c.args.gateway.now c.loop-turn.gateway c.args.self.now c.loop-turn.self c.loop-turn._turn
+    ran-ends g.D.Disk.honest g.D.Disk.moment g.D.Disk.left (GaveAll g.L.Device.coming g.L.Device.waited g.L.Device.has_none d.lan) (GaveAll g.W.Device.coming g.W.Device.waited g.W.Device.has_none d.wan) c.args.gateway.now c.loop-turn.gateway c.args.self.now.told c.loop-turn.self.told c.loop-turn._turn
     (g.P.Pace.asks c.args.pace.now) (g.P.Pace.asks c.loop-turn.pace)
     (g.L.Device.coming d.lan) (g.L.Device.coming e.lan) (g.W.Device.coming d.wan) (g.W.Device.coming e.wan)
-    (g.L.Device.handed d.lan) (g.L.Device.handed e.lan) (g.W.Device.handed d.wan) (g.W.Device.handed e.wan) c.loop-turn.invariant.0 (inl over.0) in
-    rw (c.next.ensures.from_lan, c.next.ensures.from_wan, c.next.ensures.to_lan, c.next.ensures.to_wan, over.1) (record { ran = (run.0, tt, run.1) })
+    (g.L.Device.handed d.lan) (g.L.Device.handed e.lan) (g.W.Device.handed d.wan) (g.W.Device.handed e.wan) c.args.self.now.counts c.loop-turn.self.counts c.loop-turn.invariant.0 (inl over.0) in
+    rw (c.next.ensures.from_lan, c.next.ensures.from_wan, c.next.ensures.to_lan, c.next.ensures.to_wan, over.1) (record { ran = (run.0, tt, run.1, run.2) })
 
 pub returns-in-Err : goal.returns-in-Err
 returns-in-Err g c =
@@ -43,20 +43,20 @@ returns-in-Err g c =
     let t = c.in-Err.ensures.turned in
     let asked : AsksFor (g.P.Pace.asks c.loop-turn.pace) (g.P.Pace.asks c.next.new.self) (asked_of t.0 ∷ []) = rw (t.1, t.2) c.in-Some.ensures.asked in
     let gave : Gave t.0 (g.L.Device.coming e.lan) (g.L.Device.coming f.lan) (g.W.Device.coming e.wan) (g.W.Device.coming f.wan) = rw (← n.from_lan, ← n.from_wan) t.3 in
-    let takes : TakesAll c.loop-turn.self t.0 (GaveAll g.L.Device.coming g.L.Device.waited g.L.Device.has_none b.lan 0 t.0.lan) (GaveAll g.W.Device.coming g.W.Device.waited g.W.Device.has_none b.wan 0 t.0.wan) = t.5 in
-    let fails : Fails g.D.Disk.honest g.D.Disk.moment g.D.Disk.left c.loop-turn.gateway c.turn_at.new.gateway (events_of c.loop-turn.self t.0)
+    let takes : TakesAll c.loop-turn.self.told t.0 (GaveAll g.L.Device.coming g.L.Device.waited g.L.Device.has_none b.lan 0 t.0.lan) (GaveAll g.W.Device.coming g.W.Device.waited g.W.Device.has_none b.wan 0 t.0.wan) = t.5 in
+    let fails : Fails g.D.Disk.honest g.D.Disk.moment g.D.Disk.left c.loop-turn.gateway c.turn_at.new.gateway (events_of c.loop-turn.self.told t.0)
     (g.L.Device.handed e.lan) (g.L.Device.handed f.lan) (g.W.Device.handed e.wan) (g.W.Device.handed f.wan) = rw (← n.to_lan, ← n.to_wan) t.4 in
     let run =
-    ran-fails g.D.Disk.honest g.D.Disk.moment g.D.Disk.left (GaveAll g.L.Device.coming g.L.Device.waited g.L.Device.has_none d.lan) (GaveAll g.W.Device.coming g.W.Device.waited g.W.Device.has_none d.wan) g.met.D.Disk.earlier c.args.gateway.now c.loop-turn.gateway c.turn_at.new.gateway c.requires.stands c.requires.none c.args.self.now c.loop-turn.self c.loop-turn._turn c.in-Err.fault t.0
+    ran-fails g.D.Disk.honest g.D.Disk.moment g.D.Disk.left (GaveAll g.L.Device.coming g.L.Device.waited g.L.Device.has_none d.lan) (GaveAll g.W.Device.coming g.W.Device.waited g.W.Device.has_none d.wan) g.met.D.Disk.earlier c.args.gateway.now c.loop-turn.gateway c.turn_at.new.gateway c.requires.stands c.requires.none c.args.self.now.told c.loop-turn.self.told c.loop-turn._turn c.in-Err.fault t.0
     (g.P.Pace.asks c.args.pace.now) (g.P.Pace.asks c.loop-turn.pace) (g.P.Pace.asks c.next.new.self)
     (g.L.Device.coming d.lan) (g.L.Device.coming e.lan) (g.L.Device.coming f.lan) (g.W.Device.coming d.wan) (g.W.Device.coming e.wan) (g.W.Device.coming f.wan)
     (g.L.Device.handed d.lan) (g.L.Device.handed e.lan) (g.L.Device.handed f.lan) (g.W.Device.handed d.wan) (g.W.Device.handed e.wan) (g.W.Device.handed f.wan)
-    (GaveAll g.L.Device.coming g.L.Device.waited g.L.Device.has_none b.lan 0 t.0.lan) (GaveAll g.W.Device.coming g.W.Device.waited g.W.Device.has_none b.wan 0 t.0.wan)
+    (GaveAll g.L.Device.coming g.L.Device.waited g.L.Device.has_none b.lan 0 t.0.lan) (GaveAll g.W.Device.coming g.W.Device.waited g.W.Device.has_none b.wan 0 t.0.wan) c.args.self.now.counts c.loop-turn.self.counts c.turn_at.new.self.counts
     (λ turns count gave all. GaveAll-then g.L.Device.coming g.L.Device.waited g.L.Device.has_none d.lan e.lan b.lan c.loop-turn._turn (length turns) (from_lan turns) t.0.lan count gave n.from_lan c.loop-turn.invariant.1 n.lan_waits all)
     (λ turns count gave all. GaveAll-then g.W.Device.coming g.W.Device.waited g.W.Device.has_none d.wan e.wan b.wan c.loop-turn._turn (length turns) (from_wan turns) t.0.wan count gave n.from_wan c.loop-turn.invariant.2 n.wan_waits all)
-    c.loop-turn.invariant.0 asked gave takes fails in
+    c.loop-turn.invariant.0 asked gave takes fails t.6 in
     let why = subst (λ k. Explains g.D.Disk.honest g.D.Disk.moment g.D.Disk.left g.D.Disk.failed c.in-Err.fault k c.turn_at.new.gateway) (sym run.1) c.in-Err.ensures.why in
-    record { ran = (run.0, why, run.2) }
+    record { ran = (run.0, why, run.2, run.3) }
 
 pub loop-turn-preserved : goal.loop-turn-preserved
 loop-turn-preserved g c =
@@ -68,18 +68,18 @@ loop-turn-preserved g c =
     let t = c.in-Ok.ensures.turned in
     let asked : AsksFor (g.P.Pace.asks c.loop-turn.pace) (g.P.Pace.asks c.next.new.self) (asked_of t.0 ∷ []) = rw (t.1, t.2) c.in-Some.ensures.asked in
     let gave : Gave t.0 (g.L.Device.coming e.lan) (g.L.Device.coming f.lan) (g.W.Device.coming e.wan) (g.W.Device.coming f.wan) = rw (← n.from_lan, ← n.from_wan) t.3 in
-    let takes : TakesAll c.loop-turn.self t.0 (GaveAll g.L.Device.coming g.L.Device.waited g.L.Device.has_none b.lan 0 t.0.lan) (GaveAll g.W.Device.coming g.W.Device.waited g.W.Device.has_none b.wan 0 t.0.wan) = t.5 in
-    let carries : Carries g.D.Disk.honest g.D.Disk.moment g.D.Disk.left c.loop-turn.gateway c.turn_at.new.gateway (events_of c.loop-turn.self t.0) (headers_of c.loop-turn.self t.0)
+    let takes : TakesAll c.loop-turn.self.told t.0 (GaveAll g.L.Device.coming g.L.Device.waited g.L.Device.has_none b.lan 0 t.0.lan) (GaveAll g.W.Device.coming g.W.Device.waited g.W.Device.has_none b.wan 0 t.0.wan) = t.5 in
+    let carries : Carries g.D.Disk.honest g.D.Disk.moment g.D.Disk.left c.loop-turn.gateway c.turn_at.new.gateway (events_of c.loop-turn.self.told t.0) (headers_of c.loop-turn.self.told t.0)
     (g.L.Device.handed e.lan) (g.L.Device.handed f.lan) (g.W.Device.handed e.wan) (g.W.Device.handed f.wan) = rw (← n.to_lan, ← n.to_wan) t.4 in
-    let at : c.turn_at.new.self ≡ later c.loop-turn.self t.0.moment = c.turn_at.ensures.latest ∙ ap (λ (m : ℕ). later c.loop-turn.self m) (sym t.1) in (
-      going-next g.D.Disk.honest g.D.Disk.moment g.D.Disk.left (GaveAll g.L.Device.coming g.L.Device.waited g.L.Device.has_none d.lan) (GaveAll g.W.Device.coming g.W.Device.waited g.W.Device.has_none d.wan) g.met.D.Disk.earlier c.args.gateway.now c.loop-turn.gateway c.turn_at.new.gateway c.requires.stands c.requires.none c.events_are_judged_once.ensures c.args.self.now c.loop-turn.self c.turn_at.new.self c.loop-turn._turn t.0
+    let at : c.turn_at.new.self.told ≡ later c.loop-turn.self.told t.0.moment = c.turn_at.ensures.latest ∙ ap (λ (m : ℕ). later c.loop-turn.self.told m) (sym t.1) in (
+      going-next g.D.Disk.honest g.D.Disk.moment g.D.Disk.left (GaveAll g.L.Device.coming g.L.Device.waited g.L.Device.has_none d.lan) (GaveAll g.W.Device.coming g.W.Device.waited g.W.Device.has_none d.wan) g.met.D.Disk.earlier c.args.gateway.now c.loop-turn.gateway c.turn_at.new.gateway c.requires.stands c.requires.none c.events_are_judged_once.ensures c.args.self.now.told c.loop-turn.self.told c.turn_at.new.self.told c.loop-turn._turn t.0
           (g.P.Pace.asks c.args.pace.now) (g.P.Pace.asks c.loop-turn.pace) (g.P.Pace.asks c.next.new.self)
           (g.L.Device.coming d.lan) (g.L.Device.coming e.lan) (g.L.Device.coming f.lan) (g.W.Device.coming d.wan) (g.W.Device.coming e.wan) (g.W.Device.coming f.wan)
           (g.L.Device.handed d.lan) (g.L.Device.handed e.lan) (g.L.Device.handed f.lan) (g.W.Device.handed d.wan) (g.W.Device.handed e.wan) (g.W.Device.handed f.wan)
-          (GaveAll g.L.Device.coming g.L.Device.waited g.L.Device.has_none b.lan 0 t.0.lan) (GaveAll g.W.Device.coming g.W.Device.waited g.W.Device.has_none b.wan 0 t.0.wan)
+          (GaveAll g.L.Device.coming g.L.Device.waited g.L.Device.has_none b.lan 0 t.0.lan) (GaveAll g.W.Device.coming g.W.Device.waited g.W.Device.has_none b.wan 0 t.0.wan) c.args.self.now.counts c.loop-turn.self.counts c.turn_at.new.self.counts
           (λ turns count gave all. GaveAll-then g.L.Device.coming g.L.Device.waited g.L.Device.has_none d.lan e.lan b.lan c.loop-turn._turn (length turns) (from_lan turns) t.0.lan count gave n.from_lan c.loop-turn.invariant.1 n.lan_waits all)
           (λ turns count gave all. GaveAll-then g.W.Device.coming g.W.Device.waited g.W.Device.has_none d.wan e.wan b.wan c.loop-turn._turn (length turns) (from_wan turns) t.0.wan count gave n.from_wan c.loop-turn.invariant.2 n.wan_waits all)
-          c.loop-turn.invariant.0 asked gave takes at c.in-Ok.ensures.stands carries,
+          c.loop-turn.invariant.0 asked gave takes at c.in-Ok.ensures.stands carries t.6,
       Waits-on c.loop-turn._turn (g.L.Device.waited d.lan) (g.L.Device.waited e.lan) (g.L.Device.waited b.lan) (g.L.Device.waited f.lan) c.loop-turn.invariant.1 n.lan_waits c.turn_at.ensures.lan_waited,
       Waits-on c.loop-turn._turn (g.W.Device.waited d.wan) (g.W.Device.waited e.wan) (g.W.Device.waited b.wan) (g.W.Device.waited f.wan) c.loop-turn.invariant.2 n.wan_waits c.turn_at.ensures.wan_waited,
     )
@@ -89,8 +89,8 @@ returns g c =
     let d = c.args.devices.now in
     let e = c.loop-turn.devices in
     let run =
-    ran-ends g.D.Disk.honest g.D.Disk.moment g.D.Disk.left (GaveAll g.L.Device.coming g.L.Device.waited g.L.Device.has_none d.lan) (GaveAll g.W.Device.coming g.W.Device.waited g.W.Device.has_none d.wan) c.args.gateway.now c.loop-turn.gateway c.args.self.now c.loop-turn.self c.loop-turn._turn
+    ran-ends g.D.Disk.honest g.D.Disk.moment g.D.Disk.left (GaveAll g.L.Device.coming g.L.Device.waited g.L.Device.has_none d.lan) (GaveAll g.W.Device.coming g.W.Device.waited g.W.Device.has_none d.wan) c.args.gateway.now c.loop-turn.gateway c.args.self.now.told c.loop-turn.self.told c.loop-turn._turn
     (g.P.Pace.asks c.args.pace.now) (g.P.Pace.asks c.loop-turn.pace)
     (g.L.Device.coming d.lan) (g.L.Device.coming e.lan) (g.W.Device.coming d.wan) (g.W.Device.coming e.wan)
-    (g.L.Device.handed d.lan) (g.L.Device.handed e.lan) (g.W.Device.handed d.wan) (g.W.Device.handed e.wan) c.loop-turn.invariant.0 (inr (omega (arith, c.loop-turn-test.false, c.loop-turn.auto._turn-end))) in
-    record { ran = (run.0, tt, run.1) }
+    (g.L.Device.handed d.lan) (g.L.Device.handed e.lan) (g.W.Device.handed d.wan) (g.W.Device.handed e.wan) c.args.self.now.counts c.loop-turn.self.counts c.loop-turn.invariant.0 (inr (omega (arith, c.loop-turn-test.false, c.loop-turn.auto._turn-end))) in
+    record { ran = (run.0, tt, run.1, run.2) }
