@@ -6,6 +6,8 @@ use Rattle.packet.specs.declared.endpoint.Iface.TheVariants.{Lan, Wan}
 use Rattle.devices.specs.Handing.{Frames, Gives, Hands}
 use Rattle.frames.specs.Answers.{frames}
 use Rattle.gateway.specs.Kept.{Kept}
+use Rattle.gateway.specs.Told.{Told}
+use Rattle.to_devices.specs.declared.counts.Counts.{Counts}
 use Rattle.gateway.proofs.Taking.{took_none}
 use Rattle.machine.specs.Laws.{EventsAreJudgedOnce}
 use Rattle.machine.specs.Machine.{later}
@@ -16,18 +18,26 @@ use Rattle.to_devices.proofs.Letting.{Hands-nil}
 use Rattle.from_devices.proofs.Gathering.{Gives-nil, Gives-then}
 use Rattle.carrying.specs.Asking.{Asks, AsksFor, IsOver}
 use Rattle.carrying.specs.Carried.{Carries, Fails, handed_to}
+use Rattle.carrying.specs.Counted.{CountsTurn, CountsTurns}
 use Rattle.carrying.specs.Runs.{ComesBy, EachTakesAll, Ran, all_events, all_headers, asked_of, from_lan, from_wan, last_of}
 use Rattle.carrying.specs.Turns.{Gave, TakesAll, Turn, events_of, headers_of}
 use Rattle.carrying.proofs.Joined.{AsksFor-nil, all_long, asked-then, events-then, fares-behind, headers-then, lan-then, last-then, wan-then}
 use Rattle.carrying.proofs.Taken.{each-first, each-then, takes-as}
 use Rattle.carrying.proofs.Stopping.{Trail, comes-end, comes-on, trail-first, trail-then}
 
--- what is said of all that was given may be said of what came before, too
-abbrev pub Then : (Frames → List (List ℕ) → Type 0) → Type 0
-Then P = (a b : Frames) (x y : List (List ℕ)) → Gives a b x → P b y → P a (x ++ y)
+-- What is said of the packets that one more turn took of a device may be said of all since the first turn.
+abbrev pub Then : (ℕ → List (List ℕ) → Type 0) → (List Turn → List (List ℕ)) → ℕ → Frames → Frames → List (List ℕ) → Type 0 → Type 0
+Then P from done old now more A = (turns : List Turn) → length turns ≡ done → Gives old now (from turns) → A → P (length turns + 1) (from turns ++ more)
 
-module _ {D : Type 0} (honest : D → Type 0) (moment : D → ℕ) (left : D → ℕ → Files → Type 0) (P Q : Frames → List (List ℕ) → Type 0) where
-  module _ (start now : Kept D) (last at done : ℕ) (asks asks' : Asks) (lan lan' wan wan' : Frames) (lan_handed lan_handed' wan_handed wan_handed' : Frames) where
+-- one more turn was counted
+counts-then : (last : ℕ) (ts : List Turn) (t : Turn) (a b c : Told) (x y z : Counts) → CountsTurns last ts a b x y → CountsTurn (last_of last ts) t b c y z → CountsTurns last (ts ++ t ∷ []) a c x z
+counts-then last [] t a b c x y z p one =
+    let from : CountsTurn last t a c y z = subst (λ (g : Told). CountsTurn last t g c y z) p.0 one in
+    (c, z, subst (λ (k : Counts). CountsTurn last t a c k z) p.1 from, (refl, refl))
+counts-then last (s ∷ ts) t a b c x y z p one = (p.0, p.1, p.2, counts-then (later last s.moment) ts t p.0 b c p.1 y z p.3 one)
+
+module _ {D : Type 0} (honest : D → Type 0) (moment : D → ℕ) (left : D → ℕ → Files → Type 0) (P Q : ℕ → List (List ℕ) → Type 0) where
+  module _ (start now : Kept D) (last at done : ℕ) (asks asks' : Asks) (lan lan' wan wan' : Frames) (lan_handed lan_handed' wan_handed wan_handed' : Frames) (counts counts' : Counts) where
     -- so many turns were carried, and more may come
     pub record Going : Type 0 where
       pub turns : List Turn
@@ -35,23 +45,25 @@ module _ {D : Type 0} (honest : D → Type 0) (moment : D → ℕ) (left : D →
       pub asked : AsksFor asks asks' (map asked_of turns)
       pub gave_lan : Gives lan lan' (from_lan turns)
       pub gave_wan : Gives wan wan' (from_wan turns)
-      pub takes : EachTakesAll last (P lan) (Q wan) turns
+      pub takes : EachTakesAll last P Q turns
       pub moment_is : at ≡ last_of last turns
+      pub counted : CountsTurns last turns start.told now.told counts counts'
       pub stands : now.fallen ≡ false
       pub trail : Trail honest moment left start now last turns (all_events last turns) (all_headers last turns) lan_handed lan_handed' wan_handed wan_handed'
 
   -- none yet
   pub going-first : (earlier : (disk : D) (s t : ℕ) (files : Files) → s ≤ t → left disk t files → left disk s files) → EventsAreJudgedOnce
-      → (start : Kept D) (last : ℕ) (asks : Asks) (lan wan lan_handed wan_handed : Frames) → start.fallen ≡ false → start.told.held ≡ [] → Fares honest moment left start start [] []
-      → Going start start last last 0 asks asks lan lan wan wan lan_handed lan_handed wan_handed wan_handed
-  going-first earlier once start last asks lan wan lan_handed wan_handed stands none fares = record {
+      → (start : Kept D) (last : ℕ) (asks : Asks) (lan wan lan_handed wan_handed : Frames) (counts : Counts) → start.fallen ≡ false → start.told.held ≡ [] → Fares honest moment left start start [] []
+      → Going start start last last 0 asks asks lan lan wan wan lan_handed lan_handed wan_handed wan_handed counts counts
+  going-first earlier once start last asks lan wan lan_handed wan_handed counts stands none fares = record {
     turns = [];
     count = refl;
     asked = AsksFor-nil asks;
     gave_lan = Gives-nil lan;
     gave_wan = Gives-nil wan;
-    takes = each-first last (P lan) (Q wan);
+    takes = each-first last P Q;
     moment_is = refl;
+    counted = (refl, refl);
     stands = stands;
     trail =
         trail-first honest moment left earlier once start last lan_handed wan_handed
@@ -65,30 +77,31 @@ module _ {D : Type 0} (honest : D → Type 0) (moment : D → ℕ) (left : D →
         });
   }
 
-  module _ (earlier : (disk : D) (s t : ℕ) (files : Files) → s ≤ t → left disk t files → left disk s files) (start now new : Kept D) (stood : start.fallen ≡ false) (none : start.told.held ≡ []) (more-lan : Then P) (more-wan : Then Q) where
+  module _ (earlier : (disk : D) (s t : ℕ) (files : Files) → s ≤ t → left disk t files → left disk s files) (start now new : Kept D) (stood : start.fallen ≡ false) (none : start.told.held ≡ []) where
     -- the turns behind which one more takes all
-    takes-next : (last at : ℕ) (ts : List Turn) (turn : Turn) (l l' w w' : Frames) → at ≡ last_of last ts → EachTakesAll last (P l) (Q w) ts → Gives l l' (from_lan ts) → Gives w w' (from_wan ts)
-        → TakesAll at turn (P l' turn.lan) (Q w' turn.wan) → EachTakesAll last (P l) (Q w) (ts ++ turn ∷ [])
-    takes-next last at ts turn l l' w w' is all lan wan one =
-        each-then last (P l) (Q w) ts turn all
-        (takes-as (last_of last ts) turn (P l' turn.lan) (Q w' turn.wan) (P l (from_lan ts ++ turn.lan)) (Q w (from_wan ts ++ turn.wan)) (λ p. more-lan l l' (from_lan ts) turn.lan lan p) (λ q. more-wan w w' (from_wan ts) turn.wan wan q)
-        (subst (λ (m : ℕ). TakesAll m turn (P l' turn.lan) (Q w' turn.wan)) is one))
+    takes-next : (last at done : ℕ) (ts : List Turn) (turn : Turn) (l l' w w' : Frames) (A B : Type 0) → at ≡ last_of last ts → length ts ≡ done → EachTakesAll last P Q ts → Gives l l' (from_lan ts) → Gives w w' (from_wan ts)
+        → Then P from_lan done l l' turn.lan A → Then Q from_wan done w w' turn.wan B → TakesAll at turn A B → EachTakesAll last P Q (ts ++ turn ∷ [])
+    takes-next last at done ts turn l l' w w' A B is count all lan wan more-lan more-wan one =
+        each-then last P Q ts turn all
+        (takes-as (last_of last ts) turn A B (P (length ts + 1) (from_lan ts ++ turn.lan)) (Q (length ts + 1) (from_wan ts ++ turn.wan)) (more-lan ts count lan) (more-wan ts count wan)
+        (subst (λ (m : ℕ). TakesAll m turn A B) is one))
 
     -- one more
-    pub going-next : EventsAreJudgedOnce → (last at at' done : ℕ) (turn : Turn) (a a' a'' : Asks) (l l' l'' w w' w'' k k' k'' v v' v'' : Frames) → Going start now last at done a a' l l' w w' k k' v v' → AsksFor a' a'' (asked_of turn ∷ []) → Gave turn l' l'' w' w'' → TakesAll at turn (P l' turn.lan) (Q w' turn.wan) → at' ≡ later at turn.moment
-        → new.fallen ≡ false → Carries honest moment left now new (events_of at turn) (headers_of at turn) k' k'' v' v'' → Going start new last at' (done + 1) a a'' l l'' w w'' k k'' v v''
-    going-next once last at at' done turn a a' a'' l l' l'' w w' w'' k k' k'' v v' v'' i asked gave takes is stands c =
+    pub going-next : EventsAreJudgedOnce → (last at at' done : ℕ) (turn : Turn) (a a' a'' : Asks) (l l' l'' w w' w'' k k' k'' v v' v'' : Frames) (A B : Type 0) (c c' c'' : Counts) → Then P from_lan done l l' turn.lan A → Then Q from_wan done w w' turn.wan B → Going start now last at done a a' l l' w w' k k' v v' c c' → AsksFor a' a'' (asked_of turn ∷ []) → Gave turn l' l'' w' w'' → TakesAll at turn A B → at' ≡ later at turn.moment
+        → new.fallen ≡ false → Carries honest moment left now new (events_of at turn) (headers_of at turn) k' k'' v' v'' → CountsTurn at turn now.told new.told c' c'' → Going start new last at' (done + 1) a a'' l l'' w w'' k k'' v v'' c c''
+    going-next once last at at' done turn a a' a'' l l' l'' w w' w'' k k' k'' v v' v'' A B c c' c'' more-lan more-wan i asked gave takes is stands carries counts =
         let there : last_of last i.turns ≡ at = sym i.moment_is in
         let one : Carries honest moment left now new (events_of (last_of last i.turns) turn) (headers_of (last_of last i.turns) turn) k' k'' v' v'' =
-        subst (λ (m : ℕ). Carries honest moment left now new (events_of m turn) (headers_of m turn) k' k'' v' v'') i.moment_is c in
+        subst (λ (m : ℕ). Carries honest moment left now new (events_of m turn) (headers_of m turn) k' k'' v' v'') i.moment_is carries in
         record {
           turns = i.turns ++ turn ∷ [];
           count = length-append i.turns (turn ∷ []) ∙ ap (λ (n : ℕ). n + 1) i.count;
           asked = asked-then a a' a'' i.turns turn i.asked asked;
           gave_lan = rw (lan-then i.turns turn) (Gives-then l l' l'' _ _ i.gave_lan gave.from_lan);
           gave_wan = rw (wan-then i.turns turn) (Gives-then w w' w'' _ _ i.gave_wan gave.from_wan);
-          takes = takes-next last at i.turns turn l l' w w' i.moment_is i.takes i.gave_lan i.gave_wan takes;
+          takes = takes-next last at done i.turns turn l l' w w' A B i.moment_is i.count i.takes i.gave_lan i.gave_wan more-lan more-wan takes;
           moment_is = is ∙ ap (λ (m : ℕ). later m turn.moment) i.moment_is ∙ sym (last-then last i.turns turn);
+          counted = counts-then last i.turns turn start.told now.told new.told c c' c'' i.counted (subst (λ (m : ℕ). CountsTurn m turn now.told new.told c' c'') i.moment_is counts);
           stands = stands;
           trail = rw (events-then last i.turns turn, headers-then last i.turns turn)
               (trail-then honest moment left earlier once start now new last i.turns turn (all_events last i.turns) (events_of (last_of last i.turns) turn) (all_headers last i.turns) (headers_of (last_of last i.turns) turn)
@@ -96,10 +109,10 @@ module _ {D : Type 0} (honest : D → Type 0) (moment : D → ℕ) (left : D →
         }
 
     -- and one that failed
-    pub ran-fails : (last at done : ℕ) (fault : EdgeFault) (turn : Turn) (a a' a'' : Asks) (l l' l'' w w' w'' k k' k'' v v' v'' : Frames) → Going start now last at done a a' l l' w w' k k' v v' → AsksFor a' a'' (asked_of turn ∷ []) → Gave turn l' l'' w' w'' → TakesAll at turn (P l' turn.lan) (Q w' turn.wan)
+    pub ran-fails : (last at done : ℕ) (fault : EdgeFault) (turn : Turn) (a a' a'' : Asks) (l l' l'' w w' w'' k k' k'' v v' v'' : Frames) (A B : Type 0) (c c' c'' : Counts) → Then P from_lan done l l' turn.lan A → Then Q from_wan done w w' turn.wan B → Going start now last at done a a' l l' w w' k k' v v' c c' → AsksFor a' a'' (asked_of turn ∷ []) → Gave turn l' l'' w' w'' → TakesAll at turn A B
         → Fails honest moment left now new (events_of at turn) k' k'' v' v''
-        → (run : Ran honest moment left start new (Err fault) last a a'' l l'' w w'' k k'' v v'') × (run.settled ≡ now) × EachTakesAll last (P l) (Q w) (run.turns ++ run.failed)
-    ran-fails last at done fault turn a a' a'' l l' l'' w w' w'' k k' k'' v v' v'' i asked gave takes f =
+        → c'' ≡ c' → (run : Ran honest moment left start new (Err fault) last a a'' l l'' w w'' k k'' v v'') × (run.settled ≡ now) × EachTakesAll last P Q (run.turns ++ run.failed) × CountsTurns last run.turns start.told run.settled.told c c''
+    ran-fails last at done fault turn a a' a'' l l' l'' w w' w'' k k' k'' v v' v'' A B c c' c'' more-lan more-wan i asked gave takes f same =
         let fares : Fares honest moment left now new (events_of (last_of last i.turns) turn) f.sent =
         subst (λ (m : ℕ). Fares honest moment left now new (events_of m turn) f.sent) i.moment_is f.fares in (
           record {
@@ -125,13 +138,14 @@ module _ {D : Type 0} (honest : D → Type 0) (moment : D → ℕ) (left : D →
                 (events_of (last_of last i.turns) turn) f.sent k'' v'' fares f.to_lan f.to_wan);
           },
           refl,
-          takes-next last at i.turns turn l l' w w' i.moment_is i.takes i.gave_lan i.gave_wan takes,
+          takes-next last at done i.turns turn l l' w w' A B i.moment_is i.count i.takes i.gave_lan i.gave_wan more-lan more-wan takes,
+          subst (λ (x : Counts). CountsTurns last i.turns start.told now.told c x) (sym same) i.counted,
         )
 
   -- they ended well
-  pub ran-ends : (start now : Kept D) (last at done : ℕ) (a a' : Asks) (l l' w w' k k' v v' : Frames) → Going start now last at done a a' l l' w w' k k' v v' → IsOver a' ⊎ (done ≡ 2 ^ 64 - 1)
-      → (run : Ran honest moment left start now (Ok tt) last a a' l l' w w' k k' v v') × EachTakesAll last (P l) (Q w) (run.turns ++ run.failed)
-  ran-ends start now last at done a a' l l' w w' k k' v v' i over = (
+  pub ran-ends : (start now : Kept D) (last at done : ℕ) (a a' : Asks) (l l' w w' k k' v v' : Frames) (c c' : Counts) → Going start now last at done a a' l l' w w' k k' v v' c c' → IsOver a' ⊎ (done ≡ 2 ^ 64 - 1)
+      → (run : Ran honest moment left start now (Ok tt) last a a' l l' w w' k k' v v') × EachTakesAll last P Q (run.turns ++ run.failed) × CountsTurns last run.turns start.told run.settled.told c c'
+  ran-ends start now last at done a a' l l' w w' k k' v v' c c' i over = (
     record {
       turns = i.turns;
       failed = [];
@@ -153,4 +167,5 @@ module _ {D : Type 0} (honest : D → Type 0) (moment : D → ℕ) (left : D →
           (comes-end honest moment left start now (all_events last i.turns) (all_headers last i.turns) k k' v v' i.trail.carries last before (i.trail.passed before after e));
     },
     rw (append-nil i.turns) i.takes,
+    i.counted,
   )

@@ -6,15 +6,15 @@ use Rattle.std.proofs.lemmas.List.{append-nil}
 use Rattle.packet.specs.declared.endpoint.Iface.{Iface}
 use Rattle.machine.specs.declared.event.Answer.{Answer}
 use Rattle.machine.specs.declared.event.Answer.TheVariants as answer
-use Rattle.frames.specs.Answers.{answer_body, frame, frames, iface_byte, kind_byte}
+use Rattle.frames.specs.Answers.{frame, frames, iface_byte}
 use Rattle.frames.proofs.Parts.{frame_size}
+use Rattle.to_devices.specs.Counting.{AreCounted}
+use Rattle.to_devices.specs.declared.counts.Counts.{Counts}
 use Rattle.to_devices.specs.Leaving.{leaving, leaving_by, no_header}
 use Rattle.to_devices.specs.Replies.{Reply, FitsReply, HasNoReply, reply_frame}
-use Rattle.to_devices.proofs.Replying.{leaves_alike, too_few}
+use Rattle.to_devices.proofs.Replying.{counts_alike, leaves_alike, too_few}
 use Rattle.carrying.specs.Carried.{handed_by, handed_to}
-
-abbrev pub reply_of : ℕ × Answer → Reply
-reply_of p = record { kind = kind_byte p.1; number = p.0; body = answer_body p.1 }
+use Rattle.carrying.specs.Counted.{reply_of}
 
 frame_is : (p : ℕ × Answer) → frame p ≡ reply_frame (reply_of p)
 unfolding frame reply_frame
@@ -49,3 +49,11 @@ handed_is side headers ps replies rest few fit none e =
     let same : flat_map reply_frame replies ++ rest ≡ flat_map reply_frame (map reply_of ps) ++ [] =
     sym e ∙ frames_are ps ∙ sym (append-nil (flat_map reply_frame (map reply_of ps))) in
     leaves_alike (iface_byte side) headers replies (map reply_of ps) rest [] fit (replies_fit ps few) none (too_few [] (omega arith)) same ∙ handed_all side headers ps
+
+-- and what is counted of them is what is counted of the answers
+pub counted_is : (wan_from : ℕ) (ps : List (ℕ × Answer)) (replies : List Reply) (rest : List ℕ) (c c' : Counts) → length (frames ps) ≤ 1048576
+    → AllByRecursion FitsReply replies → HasNoReply rest → frames ps ≡ flat_map reply_frame replies ++ rest → AreCounted wan_from 0 replies c c' → AreCounted wan_from 0 (map reply_of ps) c c'
+counted_is wan_from ps replies rest c c' few fit none e are =
+    let same : flat_map reply_frame replies ++ rest ≡ flat_map reply_frame (map reply_of ps) ++ [] =
+    sym e ∙ frames_are ps ∙ sym (append-nil (flat_map reply_frame (map reply_of ps))) in
+    counts_alike wan_from 0 replies (map reply_of ps) rest [] c c' fit (replies_fit ps few) none (too_few [] (omega arith)) same are

@@ -14,10 +14,13 @@ use Rattle.gateway.specs.Told.{TookAll}
 use Rattle.socket_edge.specs.Running.{Answered, Fares, events_in}
 use Rattle.to_devices.specs.Leaving.{leaving}
 use Rattle.to_devices.specs.Replies.{Reply, FitsReply, HasNoReply, reply_frame}
+use Rattle.to_devices.specs.Counting.{AreCounted}
+use Rattle.to_devices.specs.declared.counts.Counts.{Counts}
 use Rattle.carrying.specs.Carried.{Carries, Fails}
+use Rattle.carrying.specs.Counted.{CountsTurn, before_wan}
 use Rattle.carrying.specs.Turns.{Turn, events_of, headers_of}
 use Rattle.carrying.proofs.Fronted.{fares-more, front}
-use Rattle.carrying.proofs.Handed.{handed_is}
+use Rattle.carrying.proofs.Handed.{counted_is, handed_is}
 use Rattle.carrying.proofs.Streamed.{Streams, turn_reads}
 
 pub events_are : (last : ℕ) (turn : Turn) (f : Gathered) (requests : List ℕ) → Streams last turn f → AllByRecursion FitsFrame (events_of last turn) → requests ≡ f.requests → events_in requests ≡ events_of last turn
@@ -45,6 +48,18 @@ module _ {D : Type 0} (honest : D → Type 0) (moment : D → ℕ) (left : D →
         fares = subst (λ (es : List Event). Fares honest moment left old new es (frames p.handed)) events
             (subst (λ (x : List ℕ). Fares honest moment left old new (events_in requests) x) p.sent fares);
       }
+
+  -- and what is counted of it
+  pub counted : (last : ℕ) (turn : Turn) (f : Gathered) (requests sent : List ℕ) (replies : List Reply) (rest : List ℕ) (c c' : Counts)
+      → Streams last turn f → AllByRecursion FitsFrame (events_of last turn) → requests ≡ f.requests → Answered old.told new.told requests sent
+      → length sent ≤ 1048576 → AllByRecursion FitsReply replies → HasNoReply rest → sent ≡ flat_map reply_frame replies ++ rest
+      → AreCounted (before_wan last turn) 0 replies c c' → CountsTurn last turn old.told new.told c c'
+  counted last turn f requests sent replies rest c c' s fit is a few fits none parts are =
+      let events : events_in requests ≡ events_of last turn = events_are last turn f requests s fit is in
+      let p = a.progress in
+      let split : frames p.handed ≡ flat_map reply_frame replies ++ rest = sym p.sent ∙ parts in
+      let short : length (frames p.handed) ≤ 1048576 = omega (arith, ap length p.sent, few) in
+      (p.handed, subst (λ (es : List Event). TookAll old.told new.told es p.handed) events p.took, counted_is (before_wan last turn) p.handed replies rest c c' short fits none split are)
 
   pub failed : (last : ℕ) (turn : Turn) (f : Gathered) (requests given rest sent : List ℕ) (l l' w w' : Frames)
       → Streams last turn f → AllByRecursion FitsFrame (events_of last turn) → requests ≡ f.requests → requests ≡ given ++ rest → Fares honest moment left old new (events_in given) sent → l' ≡ l → w' ≡ w

@@ -1,5 +1,5 @@
 -- Turns one after the other.
-use Rattle.std.specs.Prelude.{◌≡◌, ◌⊎◌, ℕ, ◌-◌, ◌^◌, List, [], ◌∷◌, ◌++◌, length, map, Result, Ok, Err}
+use Rattle.std.specs.Prelude.{◌≡◌, ◌⊎◌, ℕ, ◌+◌, ◌-◌, ◌^◌, List, [], ◌∷◌, ◌++◌, length, map, Result, Ok, Err}
 use Rattle.std.specs.List.{flat_map}
 use Rattle.disk_model.specs.Disk.{Files, LeavesOnly}
 use Rattle.packet.specs.declared.endpoint.Iface.TheVariants.{Lan, Wan}
@@ -44,12 +44,12 @@ abbrev pub asked_of : Turn → Asked
 asked_of turn = record { moment = turn.moment; text = turn.text }
 
 -- Each of these turns takes all. Of what a device gave up to the end of a turn, `lan_gave_all` and `wan_gave_all` say
--- that it was all that it had then.
-abbrev pub EachTakesAll : ℕ → (List (List ℕ) → Type 0) → (List (List ℕ) → Type 0) → List Turn → Type 0
+-- that it was all that it had then: behind as many waits as there were turns, with that one.
+abbrev pub EachTakesAll : ℕ → (ℕ → List (List ℕ) → Type 0) → (ℕ → List (List ℕ) → Type 0) → List Turn → Type 0
 EachTakesAll last lan_gave_all wan_gave_all turns = (before after : List Turn) (turn : Turn)
     → turns ≡ before ++ turn ∷ after
-    → TakesAll (last_of last before) turn (lan_gave_all (from_lan before ++ turn.lan))
-    (wan_gave_all (from_wan before ++ turn.wan))
+    → TakesAll (last_of last before) turn (lan_gave_all (length before + 1) (from_lan before ++ turn.lan))
+    (wan_gave_all (length before + 1) (from_wan before ++ turn.wan))
 
 -- A run that ended well did so as nothing more was asked for, or behind as many turns as there can be. In any other one
 -- a turn failed, the last one.

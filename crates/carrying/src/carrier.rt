@@ -6,6 +6,7 @@ ghost use Rattle.machine.specs.Machine.{later};
 ghost use Rattle.socket_edge.specs.Running.{Answered, Explains, Fares, events_in};
 ghost use Rattle.carrying.specs.Asking.{text_of};
 ghost use Rattle.carrying.specs.Carried.{Turned};
+ghost use Rattle.carrying.specs.Counted.{before_wan, CountsIfOk, CountsTurns};
 ghost use Rattle.carrying.specs.Runs.{EachTakesAll, Ran};
 ghost use Rattle.carrying.specs.Turns.{Gave, TakesAll, Turn, events_of, gathered, headers_of};
 
@@ -31,7 +32,8 @@ const MOST_OF_LAN: usize = 163_840;
 /// They may have so many bytes in all.
 const MOST_OF_ALL: usize = 262_144;
 
-/// What carries packets: the requests of a turn, and their answers. Contracts see its latest moment, in seconds.
+/// What carries packets: the requests of a turn, and their answers. Contracts see its latest moment, in seconds, and
+/// how many packets there were.
 #[derive(Drop)]
 pub struct Carrier {
     alloc: Global,
@@ -42,11 +44,11 @@ pub struct Carrier {
 }
 
 impl Model for Carrier {
-    ghost use Rattle.std.specs.Prelude.{ℕ};
+    ghost use Rattle.carrying.specs.Counted.{Carrying};
 
-    ghost Value = { ℕ };
+    ghost Value = { Carrying };
 
-    ghost view = { λ c. c.from.told };
+    ghost view = { λ c. record { told = c.from.told; counts = c.counts } };
 }
 
 // Begins a turn at a moment, in seconds, and loads a text, if there is one.
@@ -76,11 +78,14 @@ fn gather<L: Device, W: Device>(
         (W.coming devices.old.wan) (W.coming devices.new.wan)
         × (from.new ≡ gathered turn from.old)
         × TakesAll from.old.told turn
-        (GaveAll L.coming L.has_none (L.coming devices.old.lan) turn.lan)
-        (GaveAll W.coming W.has_none (W.coming devices.old.wan) turn.wan) }
+        (GaveAll L.coming L.waited L.has_none devices.old.lan 0 turn.lan)
+        (GaveAll W.coming W.waited W.has_none devices.old.wan 0 turn.wan)
+        × (result ≡ before_wan from.old.told turn) }
     ensures fits { later from.old.told moment < 2 ^ 64 }
     ensures to_lan { L.handed devices.new.lan ≡ L.handed devices.old.lan }
     ensures to_wan { W.handed devices.new.wan ≡ W.handed devices.old.wan }
+    ensures lan_waited { L.waited devices.new.lan ≡ L.waited devices.old.lan }
+    ensures wan_waited { W.waited devices.new.wan ≡ W.waited devices.old.wan }
 {
     open_turn(from, moment, text);
     let _ = from.moment();
@@ -125,7 +130,7 @@ impl Carrier {
     /// Carries nothing yet. No moment will be before this one, in seconds. Of each moment at most so many dropped packets
     /// are noted.
     pub fn new(alloc: Global, moment: u64, most_noted: u64) -> Result<Carrier, AllocError>
-        ensures { IfOk result (λ carrier. carrier ≡ moment) }
+        ensures { IfOk result (λ carrier. carrier.told ≡ moment) }
     {
         Ok(Carrier {
             alloc,
@@ -137,7 +142,9 @@ impl Carrier {
     }
 
     /// How many packets there were.
-    pub fn counts(&self) -> &Counts {
+    pub fn counts(&self) -> &Counts
+        ensures { result.now ≡ self.now.counts }
+    {
         &self.counts
     }
 
@@ -163,19 +170,23 @@ impl Carrier {
         requires short { IfSome text (λ bytes. length bytes.now ≤ 262144) }
         requires stands { gateway.old.fallen ≡ false }
         requires none { gateway.old.told.held ≡ [] }
-        // What came, and what went; and that all that the devices had came, or enough.
+        // What came, and what went; that all that the devices had came, or enough; and what was counted.
         ensures turned { (turn : Turn) × (turn.moment ≡ moment)
             × MatchOption text.entry (turn.text ≡ None) (λ bytes. turn.text ≡ Some bytes.now)
             × Gave turn (L.coming devices.old.lan) (L.coming devices.new.lan)
             (W.coming devices.old.wan) (W.coming devices.new.wan)
             × Turned D.honest D.moment D.left gateway.old gateway.new result
-            (events_of self.old turn) (headers_of self.old turn)
+            (events_of self.old.told turn) (headers_of self.old.told turn)
             (L.handed devices.old.lan) (L.handed devices.new.lan)
             (W.handed devices.old.wan) (W.handed devices.new.wan)
-            × TakesAll self.old turn
-            (GaveAll L.coming L.has_none (L.coming devices.old.lan) turn.lan)
-            (GaveAll W.coming W.has_none (W.coming devices.old.wan) turn.wan) }
-        ensures latest { self.new ≡ later self.old moment }
+            × TakesAll self.old.told turn
+            (GaveAll L.coming L.waited L.has_none devices.old.lan 0 turn.lan)
+            (GaveAll W.coming W.waited W.has_none devices.old.wan 0 turn.wan)
+            × CountsIfOk result self.old.told turn gateway.old.told gateway.new.told
+            self.old.counts self.new.counts }
+        ensures latest { self.new.told ≡ later self.old.told moment }
+        ensures lan_waited { L.waited devices.new.lan ≡ L.waited devices.old.lan }
+        ensures wan_waited { W.waited devices.new.wan ≡ W.waited devices.old.wan }
         ensures rests { OnOk result (gateway.new.told.held ≡ []) }
         ensures stands { OnOk result (gateway.new.fallen ≡ false) }
         ensures why { IfErr result (λ e. Explains D.honest D.moment D.left D.failed e gateway.old
@@ -208,13 +219,17 @@ impl Carrier {
             × Gave turn (L.coming devices.old.lan) (L.coming devices.new.lan)
             (W.coming devices.old.wan) (W.coming devices.new.wan)
             × Turned D.honest D.moment D.left gateway.old gateway.new result
-            (events_of self.old turn) (headers_of self.old turn)
+            (events_of self.old.told turn) (headers_of self.old.told turn)
             (L.handed devices.old.lan) (L.handed devices.new.lan)
             (W.handed devices.old.wan) (W.handed devices.new.wan)
-            × TakesAll self.old turn
-            (GaveAll L.coming L.has_none (L.coming devices.old.lan) turn.lan)
-            (GaveAll W.coming W.has_none (W.coming devices.old.wan) turn.wan) }
-        ensures latest { self.new ≡ later self.old beat.now.moment }
+            × TakesAll self.old.told turn
+            (GaveAll L.coming L.waited L.has_none devices.old.lan 0 turn.lan)
+            (GaveAll W.coming W.waited W.has_none devices.old.wan 0 turn.wan)
+            × CountsIfOk result self.old.told turn gateway.old.told gateway.new.told
+            self.old.counts self.new.counts }
+        ensures latest { self.new.told ≡ later self.old.told beat.now.moment }
+        ensures lan_waited { L.waited devices.new.lan ≡ L.waited devices.old.lan }
+        ensures wan_waited { W.waited devices.new.wan ≡ W.waited devices.old.wan }
         ensures stands { OnOk result (gateway.new.fallen ≡ false) }
         ensures why { IfErr result (λ e. Explains D.honest D.moment D.left D.failed e gateway.old
             gateway.new) }
@@ -240,17 +255,20 @@ impl Carrier {
         requires stands { gateway.old.fallen ≡ false }
         requires none { gateway.old.told.held ≡ [] }
         // By which turns it went, all that came from the devices in them, and all that went to these; what a stop
-        // leaves, also one in the midst; why the last turn failed, if one did; and that each took what the devices had.
-        ensures ran { (run : Ran D.honest D.moment D.left gateway.old gateway.new result self.old
+        // leaves, also one in the midst; why the last turn failed, if one did; that each took what the devices had; and
+        // that the answers of each that didn't fail were counted.
+        ensures ran { (run : Ran D.honest D.moment D.left gateway.old gateway.new result self.old.told
             (P.asks pace.old) (P.asks pace.new)
             (L.coming devices.old.lan) (L.coming devices.new.lan)
             (W.coming devices.old.wan) (W.coming devices.new.wan)
             (L.handed devices.old.lan) (L.handed devices.new.lan)
             (W.handed devices.old.wan) (W.handed devices.new.wan))
             × IfErr result (λ e. Explains D.honest D.moment D.left D.failed e run.settled gateway.new)
-            × EachTakesAll self.old
-            (GaveAll L.coming L.has_none (L.coming devices.old.lan))
-            (GaveAll W.coming W.has_none (W.coming devices.old.wan)) (run.turns ++ run.failed) }
+            × EachTakesAll self.old.told
+            (GaveAll L.coming L.waited L.has_none devices.old.lan)
+            (GaveAll W.coming W.waited W.has_none devices.old.wan) (run.turns ++ run.failed)
+            × CountsTurns self.old.told run.turns gateway.old.told run.settled.told
+            self.old.counts self.new.counts }
     {
         stands(gateway);
         events_are_judged_once();

@@ -1,6 +1,7 @@
 //! What turns go by.
 ghost use Rattle.std.specs.Option.{ForSome};
 ghost use Rattle.std.specs.Prelude.{◌≡◌, ◌≤◌, ◌∷◌, [], List, Option, None, IfNone, IfSome, length};
+ghost use Rattle.devices.specs.Handing.{Waits};
 ghost use Rattle.carrying.specs.Asking.{Asked, AsksFor, IsOver, asked_by};
 
 use crate::between::Between;
@@ -38,5 +39,7 @@ pub trait Pace<L: Device, W: Device> {
         ensures from_lan { L.coming devices.new.lan ≡ L.coming devices.old.lan }
         ensures from_wan { W.coming devices.new.wan ≡ W.coming devices.old.wan }
         ensures to_lan { L.handed devices.new.lan ≡ L.handed devices.old.lan }
-        ensures to_wan { W.handed devices.new.wan ≡ W.handed devices.old.wan };
+        ensures to_wan { W.handed devices.new.wan ≡ W.handed devices.old.wan }
+        ensures lan_waits { Waits 1 (L.waited devices.old.lan) (L.waited devices.new.lan) }
+        ensures wan_waits { Waits 1 (W.waited devices.old.wan) (W.waited devices.new.wan) };
 }

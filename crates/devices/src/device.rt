@@ -26,6 +26,9 @@ pub trait Device {
     /// What it gives from here on, each time a header and its packet, where that is known.
     ghost coming: { Self → Option (List (List ℕ)) } = { λ _. None };
 
+    /// How often it was waited for, each time before a turn, where that is known.
+    ghost waited: { Self → Option ℕ } = { λ _. None };
+
     /// It has no packet now, as far as it was asked.
     ghost has_none: { Self → Type 0 };
 
@@ -40,12 +43,14 @@ pub trait Device {
         ensures none { IfNone result (has_none self.new) }
         ensures header { IfSome result (λ n. 10 ≤ n) }
         ensures longest { IfSome result (λ n. n ≤ 65545) }
-        ensures handed { handed self.new ≡ handed self.old };
+        ensures handed { handed self.new ≡ handed self.old }
+        ensures waited { waited self.new ≡ waited self.old };
 
     /// Hands a header and its packet to the device, and says whether it lets the packet out. One that is full, down or
     /// gone doesn't, and the packet is lost, as on any link.
     fn send(&mut self, frame: &[u8]) -> bool
         requires header { 10 ≤ length frame.now }
         ensures handed { Hands (handed self.old) (handed self.new) (frame.now ∷ []) }
-        ensures coming { coming self.new ≡ coming self.old };
+        ensures coming { coming self.new ≡ coming self.old }
+        ensures waited { waited self.new ≡ waited self.old };
 }

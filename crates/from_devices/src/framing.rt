@@ -94,6 +94,7 @@ pub fn take_packet<D: Device>(
     ensures none { IfNone result ((D.coming device.new ≡ D.coming device.old)
         × D.has_none device.new) }
     ensures handed { D.handed device.new ≡ D.handed device.old }
+    ensures waited { D.waited device.new ≡ D.waited device.old }
     ensures len { length bytes.new ≡ length bytes.old }
 {
     // The header of the packet comes where the last ten bytes of the request's head are to stand.

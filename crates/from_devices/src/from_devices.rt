@@ -120,6 +120,7 @@ impl FromDevices {
             × D.has_none device.new
             × (self.new ≡ self.old) }
         ensures handed { D.handed device.new ≡ D.handed device.old }
+        ensures waited { D.waited device.new ≡ D.waited device.old }
     {
         match self.requests.take(iface, self.told, device) {
             Some(header) => {
@@ -140,6 +141,7 @@ impl FromDevices {
         ensures all { D.has_none device.new ⊎ IsEnough most self.old self.new }
         ensures few { length self.new.headers ≤ length self.old.headers + 64 }
         ensures handed { D.handed device.new ≡ D.handed device.old }
+        ensures waited { D.waited device.new ≡ D.waited device.old }
     {
         let most = most.min(crate::room::MOST_BYTES);
         for _taken in 0..MOST_TAKEN {

@@ -86,6 +86,7 @@ impl Room {
             × D.has_none device.new
             × (self.new ≡ self.old)) }
         ensures handed { D.handed device.new ≡ D.handed device.old }
+        ensures waited { D.waited device.new ≡ D.waited device.old }
     {
         let end = self.end + LONGEST_REQUEST;
         let place = &mut self.bytes.as_mut_slice()[self.end..end];

@@ -1,8 +1,8 @@
 -- The frame of an answer, apart and put together.
-use Rattle.std.proofs.Common.{◌≡◌, ◌≢◌, ℕ, ◌+◌, ◌-◌, ◌<◌, ◌≤◌, ◌^◌, ◌==◌, zero, suc, Bool, true, false, if◌then◌else◌, List, [], ◌∷◌, ◌++◌, length, take, drop, refl, sym, ap, ◌∙◌, arith, append_assoc, length-append, length-drop, length-take}
-use Rattle.std.specs.Prelude.{slice_index}
+use Rattle.std.proofs.Common.{◌≡◌, ◌≢◌, ℕ, ◌+◌, ◌-◌, ◌<◌, ◌≤◌, ◌^◌, ◌==◌, zero, suc, Bool, true, false, if◌then◌else◌, List, [], ◌∷◌, ◌++◌, length, take, drop, refl, sym, ap, subst, ◌∙◌, arith, append_assoc, length-append, length-drop, length-take}
+use Rattle.std.specs.Prelude.{nat_le, slice_index}
 use Rattle.std.specs.Int.{w32, w64, from_be_bytes}
-use Rattle.std.specs.List.{flat_map}
+use Rattle.std.specs.List.{AllByRecursion, flat_map}
 use Rattle.std.proofs.lemmas.Bool.{eqb-true}
 use Rattle.std.proofs.lemmas.Nat.{be_bytes_4, be_bytes_8}
 use Rattle.std.proofs.lemmas.List.{drop-drop, take-append-drop, get_or-drop, nil_from_length}
@@ -11,7 +11,7 @@ use Rattle.std.proofs.Math.Seq.{take-append-add, take-append_seam, take-length, 
 use Rattle.byteorder.specs.Endian.{big_number, big_bytes}
 use Rattle.byteorder.specs.Numbers.{big_from-take, big_from-lt, big_number-reads_back}
 use Rattle.packet.specs.Laws.{AreBytes}
-use Rattle.to_devices.specs.Counting.{counted, leaves_one}
+use Rattle.to_devices.specs.Counting.{AreCounted, counted, leaves_one}
 use Rattle.to_devices.specs.Replies.{Reply, FitsReply, HasNoReply, reply_frame}
 use Rattle.to_devices.specs.declared.counts.Counts.{Counts}
 use Rattle.to_devices.specs.Leaving.{leaving_by, leaving_on}
@@ -199,3 +199,24 @@ leaves_alike side headers (r ∷ one) (s ∷ two) rest more p q n m e =
     let body = body_same r s x y p.0 q.0 e' in
     let others = leaves_alike side (drop 1 headers) one two rest more p.1 q.1 n m body.1 in
     rw (kind, body.0, others) refl
+
+-- what was counted of frames is so however they are told apart
+pub counts_alike : (wan_from number : ℕ) (one two : List Reply) (rest more : List ℕ) (c c' : Counts) → AllByRecursion FitsReply one → AllByRecursion FitsReply two → HasNoReply rest → HasNoReply more → flat_map reply_frame one ++ rest ≡ flat_map reply_frame two ++ more
+    → AreCounted wan_from number one c c' → AreCounted wan_from number two c c'
+counts_alike wan_from number [] [] rest more c c' p q n m e are = are
+counts_alike wan_from number [] (s ∷ two) rest more c c' p q n m e are =
+    absurd (n s (flat_map reply_frame two ++ more) q.0 (e ∙ ap (λ (x : List ℕ). x ++ more) (flat_map-cons reply_frame s two) ∙ append_assoc (reply_frame s) (flat_map reply_frame two) more))
+counts_alike wan_from number (r ∷ one) [] rest more c c' p q n m e are =
+    absurd (m r (flat_map reply_frame one ++ rest) p.0 (sym e ∙ ap (λ (x : List ℕ). x ++ rest) (flat_map-cons reply_frame r one) ∙ append_assoc (reply_frame r) (flat_map reply_frame one) rest))
+counts_alike wan_from number (r ∷ one) (s ∷ two) rest more c c' p q n m e are =
+    let x = flat_map reply_frame one ++ rest in
+    let y = flat_map reply_frame two ++ more in
+    let e' : reply_frame r ++ x ≡ reply_frame s ++ y =
+    sym (ap (λ (z : List ℕ). z ++ rest) (flat_map-cons reply_frame r one) ∙ append_assoc (reply_frame r) (flat_map reply_frame one) rest) ∙ e
+    ∙ (ap (λ (z : List ℕ). z ++ more) (flat_map-cons reply_frame s two) ∙ append_assoc (reply_frame s) (flat_map reply_frame two) more) in
+    let kind = kind_same r s x y e' in
+    let body = body_same r s x y p.0 q.0 e' in
+    let wan = nat_le wan_from number in
+    let same : counted wan are.0 r.kind r.body c ≡ counted wan are.0 s.kind s.body c =
+    ap (λ (k : ℕ). counted wan are.0 k r.body c) kind ∙ ap (λ (b : List ℕ). counted wan are.0 s.kind b c) body.0 in
+    (are.0, counts_alike wan_from (number + 1) one two rest more (counted wan are.0 s.kind s.body c) c' p.1 q.1 n m body.1 (subst (λ (d : Counts). AreCounted wan_from (number + 1) one d c') same are.1))

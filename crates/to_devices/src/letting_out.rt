@@ -64,6 +64,8 @@ fn hand_on<L: Device, W: Device>(
         (leaving_on 1 header.now (slice_index frame.old 13 ∷ drop 14 frame.old)) }
     ensures from_lan { L.coming lan.new ≡ L.coming lan.old }
     ensures from_wan { W.coming wan.new ≡ W.coming wan.old }
+    ensures lan_waited { L.waited lan.new ≡ L.waited lan.old }
+    ensures wan_waited { W.waited wan.new ≡ W.waited wan.old }
     ensures len { length frame.new ≡ length frame.old }
     ensures counts { (out : Bool) × (counts.new ≡ leaves_one out
         (slice_index frame.old 13 ∷ drop 14 frame.old) counts.old) }
@@ -96,6 +98,8 @@ fn let_one_out<L: Device, W: Device>(
         → Hands (W.handed wan.old) (W.handed wan.new) (leaving_by 1 header.now reply) }
     ensures from_lan { L.coming lan.new ≡ L.coming lan.old }
     ensures from_wan { W.coming wan.new ≡ W.coming wan.old }
+    ensures lan_waited { L.waited lan.new ≡ L.waited lan.old }
+    ensures wan_waited { W.waited wan.new ≡ W.waited wan.old }
     ensures len { length frame.new ≡ length frame.old }
     ensures counts { (reply : Reply) → frame.old ≡ reply_frame reply → (out : Bool)
         × (counts.new ≡ counted from_wan out reply.kind reply.body counts.old) }
@@ -129,6 +133,8 @@ pub(crate) fn let_all_out<L: Device, W: Device>(
         × AreCounted wan_from 0 replies counts.old counts.new }
     ensures from_lan { L.coming lan.new ≡ L.coming lan.old }
     ensures from_wan { W.coming wan.new ≡ W.coming wan.old }
+    ensures lan_waited { L.waited lan.new ≡ L.waited lan.old }
+    ensures wan_waited { W.waited wan.new ≡ W.waited wan.old }
 {
     let mut at = 0;
     let mut number = 0;

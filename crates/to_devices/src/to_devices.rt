@@ -81,6 +81,8 @@ impl ToDevices {
         ensures none { self.new ≡ [] }
         ensures from_lan { L.coming lan.new ≡ L.coming lan.old }
         ensures from_wan { W.coming wan.new ≡ W.coming wan.old }
+        ensures lan_waited { L.waited lan.new ≡ L.waited lan.old }
+        ensures wan_waited { W.waited wan.new ≡ W.waited wan.old }
     {
         let_all_out(
             self.answers.as_mut_slice(),

@@ -32,6 +32,8 @@ loop-len-preserved g c =
           i.0 it.1 is whole c.in-Some.ensures.head part size to_lan to_wan (c.let_one_out.ensures.counts it.0 frame),
       c.let_one_out.ensures.from_lan ∙ i.1,
       c.let_one_out.ensures.from_wan ∙ i.2,
+      c.let_one_out.ensures.lan_waited ∙ i.3,
+      c.let_one_out.ensures.wan_waited ∙ i.4,
     )
 
 pub returns-clause-left : goal.returns-clause-left

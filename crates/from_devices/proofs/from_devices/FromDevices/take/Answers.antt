@@ -14,4 +14,4 @@ loop-taken-preserved g c =
     it.3 ∙ ap (λ (g : Gathered). with_packets iface (it.0 ∷ []) g) i.3 ∙ packets-then iface i.0 (it.0 ∷ []) c.args.self.now in
     let many : length c.take_one.new.self.headers ≡ length c.args.self.now.headers + (c.loop-taken._taken + 1) =
     omega (arith, ap (λ (g : Gathered). length g.headers) it.3, length-append c.loop-taken.self.headers (take 10 it.0 ∷ []), c.loop-taken.invariant.1) in
-    ((i.0 ++ it.0 ∷ [], Gives-then (coming c.args.device.now) (coming c.loop-taken.device) (coming c.take_one.new.device) i.0 (it.0 ∷ []) i.1 it.1, all-then i.0 it.0 i.2 it.2, now), many, c.take_one.ensures.handed ∙ c.loop-taken.invariant.2)
+    ((i.0 ++ it.0 ∷ [], Gives-then (coming c.args.device.now) (coming c.loop-taken.device) (coming c.take_one.new.device) i.0 (it.0 ∷ []) i.1 it.1, all-then i.0 it.0 i.2 it.2, now), many, c.take_one.ensures.handed ∙ c.loop-taken.invariant.2, c.take_one.ensures.waited ∙ c.loop-taken.invariant.3)

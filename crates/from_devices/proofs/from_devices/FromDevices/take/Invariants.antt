@@ -9,3 +9,4 @@ invariant-loop-taken g l = ((given : List (List ℕ)) × Gives (g.D.Device.comin
     × AllByRecursion IsPacket given × (l.self ≡ with_packets l.iface given l.fn.self))
     × (length l.self.headers ≡ length l.fn.self.headers + l._taken)
     × (g.D.Device.handed l.device ≡ g.D.Device.handed l.fn.device)
+    × (g.D.Device.waited l.device ≡ g.D.Device.waited l.fn.device)
