@@ -9,7 +9,7 @@
 # the namespaces lan and wan; there is no other way between these two. Nothing outside the namespaces is changed.
 #
 # WAY says what carries the packets: tun, natgw tun by itself, or adapter, tun.py with natgw serve. OFFLOAD=no leaves the
-# kernel's offloads away, STEERING=no its steering.
+# kernel's offloads away, STEERING=yes takes its steering.
 
 repository=$(cd "$(dirname "${BASH_SOURCE[0]}")/.." && pwd)
 natgw=${NATGW:-$repository/crates/natgw/out/natgw}
@@ -136,11 +136,11 @@ bench_down() {
   rm -rf "$work"
 }
 
-# OFFLOAD=no leaves the kernel's offloads away, STEERING=no its steering. LOG_DROPS=N has N dropped packets a second
-# told of in the adapter's log.
+# OFFLOAD=no leaves the kernel's offloads away, STEERING=yes takes its steering. LOG_DROPS=N has N dropped packets a
+# second told of in the adapter's log.
 of_devices=()
 [ "${OFFLOAD:-yes}" = yes ] || of_devices+=(--no-offload)
-[ "${STEERING:-yes}" = yes ] || of_devices+=(--no-steering)
+[ "${STEERING:-no}" = no ] || of_devices+=(--steering)
 log_drops=()
 [ -z "${LOG_DROPS-}" ] || log_drops=(--log-drops "$LOG_DROPS")
 spaces_of_devices=(--lan-netns "$bench-lan" --wan-netns "$bench-wan")

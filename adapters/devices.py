@@ -64,33 +64,42 @@ def processors():
         return next(line.split()[1] for line in file if line.startswith("Cpus_allowed:"))
 
 
-def steer(name, namespace):
-    """Has the kernel go on with what is handed to a device on all processors, each flow on one of them (receive packet
-    steering). Otherwise it does so within the call that hands it over."""
-    if len(os.sched_getaffinity(0)) == 1:
-        return
+def bits(text):
+    """A set of processors, as /sys has it."""
+    return int(text.replace(",", "") or "0", 16)
+
+
+def steer(name, namespace, wanted):
+    """Has the kernel go on with what is handed to a device on these processors, each flow on one of them (receive packet
+    steering). If there are none, it does so within the call that hands it over. A device keeps this, too."""
     inside = ["ip", "netns", "exec", namespace] if namespace else []
-    command = [*inside, "tee", f"/sys/class/net/{name}/queues/rx-0/rps_cpus"]
-    done = subprocess.run(command, input=processors(), capture_output=True, text=True, check=False)
+    path = f"/sys/class/net/{name}/queues/rx-0/rps_cpus"
+    found = subprocess.run([*inside, "cat", path], capture_output=True, text=True, check=False)
+    if found.returncode == 0 and bits(found.stdout) == bits(wanted):
+        return
+    done = subprocess.run([*inside, "tee", path], input=wanted, capture_output=True, text=True, check=False)
     if done.returncode != 0:
-        print(f"{name} isn't steered: {done.stderr.strip()}", file=sys.stderr, flush=True)
+        print(f"the steering of {name} stays as it is: {done.stderr.strip()}", file=sys.stderr, flush=True)
 
 
 def add_options(words, sides):
-    """Adds the options that name the devices, and those that leave offloads and steering away."""
+    """Adds the options that name the devices, and those of their offloads and their steering."""
     for side in sides:
         words.add_argument(f"--{side}-device", default=f"natgw-{side}", metavar="NAME", help="(%(default)s)")
         words.add_argument(f"--{side}-netns", metavar="NAME", help="the network namespace that the device is in")
     words.add_argument("--no-offload", action="store_true", help="each packet as the link has it, cut and summed up by the kernel")
-    words.add_argument("--no-steering", action="store_true", help="the devices' receive packet steering stays as it is")
+    steering = words.add_mutually_exclusive_group()
+    steering.add_argument("--steering", action="store_true", help="the kernel goes on with what is let out on all processors")
+    steering.add_argument("--keep-steering", action="store_true", help="that stays as whoever made the devices has set it")
 
 
 def attach_both(given, sides):
-    """Attaches to the devices that the options name, and steers them."""
+    """Attaches to the devices that the options name, and switches their steering on or off."""
     tuns = []
+    wanted = processors() if given.steering else "0"
     for side in sides:
         name, namespace = getattr(given, f"{side}_device"), getattr(given, f"{side}_netns")
         tuns.append(attach(name, namespace, not given.no_offload))
-        if not given.no_steering:
-            steer(name, namespace)
+        if not given.keep_steering:
+            steer(name, namespace, wanted)
     return tuns

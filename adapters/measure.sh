@@ -5,13 +5,13 @@
 #   adapters/measure.sh                       all ways
 #   adapters/measure.sh --ways kernel,tun     these ways in this order; one may come more than once
 #
-# The ways are adapter-no-offload, adapter, tun-no-offload, tun-no-steering, tun and kernel. Root, iproute2, iperf3,
+# The ways are adapter-no-offload, adapter, tun-no-offload, tun-steering, tun and kernel. Root, iproute2, iperf3,
 # nftables and python3 are needed. NATGW names the program; SECONDS_EACH how long each run takes.
 set -euo pipefail
 here=$(cd "$(dirname "${BASH_SOURCE[0]}")" && pwd)
 # shellcheck source=adapters/bench.sh
 . "$here/bench.sh"
-ways='adapter-no-offload,adapter,tun-no-offload,tun-no-steering,tun,kernel'
+ways='adapter-no-offload,adapter,tun-no-offload,tun-steering,tun,kernel'
 case "$#${1-}" in
   0) ;;
   2--ways) ways=$2 ;;
@@ -99,19 +99,12 @@ stop() {
   wait "$1" 2>/dev/null || true
 }
 
-# unsteered SIDE: takes the steering away that a way before has left with its device.
-unsteered() {
-  on "$1" sh -c "echo 0 >/sys/class/net/natgw-$1/queues/rx-0/rps_cpus"
-}
-
 # by NAME WAY [OPTION]: the line of a way with this option, and the processor time that TCP out takes.
 by() {
   local name=$1 before after ids
   way=$2
   shift 2
   of_devices=("$@")
-  unsteered lan
-  unsteered wan
   : >"$work/adapter.log"
   start_natgw
   start_adapter
@@ -151,7 +144,7 @@ for name in ${ways//,/ }; do
     adapter-no-offload) by "natgw by tun.py, no offloads" adapter --no-offload ;;
     adapter) by "natgw by tun.py" adapter ;;
     tun-no-offload) by "natgw tun, no offloads" tun --no-offload ;;
-    tun-no-steering) by "natgw tun, no steering" tun --no-steering ;;
+    tun-steering) by "natgw tun, steering" tun --steering ;;
     tun) by "natgw tun" tun ;;
     kernel) by_kernel ;;
     *) echo "$0: there is no way $name" >&2; exit 2 ;;
