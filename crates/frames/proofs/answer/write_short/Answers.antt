@@ -10,7 +10,7 @@ use Rattle.frames.proofs.answer.write_short.Goals as goal
 
 pub returns-in-Dropped-clause-frame : goal.returns-in-Dropped-clause-frame
 returns-in-Dropped-clause-frame c = λ packet.
-    let it = c.copy_from_slice-in-Dropped in
+    let it = c.copy_from_slice in
     let front = it.new.self in
     let long : length front ≡ 14 = it.ensures.len ∙ c.requires.size in
     take-append-le 14 front packet (omega (arith, long)) ∙ ap (λ (n : ℕ). take n front) (sym long) ∙ take-length front ∙ it.ensures.after ∙ c.drop_frame.ensures
