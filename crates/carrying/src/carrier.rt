@@ -4,6 +4,7 @@ ghost use Rattle.devices.specs.Handing.{GaveAll};
 ghost use Rattle.from_devices.specs.Requests.{begun, with_load};
 ghost use Rattle.machine.specs.Machine.{later};
 ghost use Rattle.socket_edge.specs.Running.{Answered, Explains, Fares, events_in};
+ghost use Rattle.to_devices.specs.Counting.{no_counts};
 ghost use Rattle.carrying.specs.Asking.{text_of};
 ghost use Rattle.carrying.specs.Carried.{Turned};
 ghost use Rattle.carrying.specs.Counted.{before_wan, CountsIfOk, CountsTurns};
@@ -130,7 +131,7 @@ impl Carrier {
     /// Carries nothing yet. No moment will be before this one, in seconds. Of each moment at most so many dropped packets
     /// are noted.
     pub fn new(alloc: Global, moment: u64, most_noted: u64) -> Result<Carrier, AllocError>
-        ensures { IfOk result (λ carrier. carrier.told ≡ moment) }
+        ensures { IfOk result (λ carrier. carrier ≡ record { told = moment; counts = no_counts }) }
     {
         Ok(Carrier {
             alloc,

@@ -1,5 +1,5 @@
--- What becomes of an event: its number, whether it is answered at once, and what a packet that is taken in place
--- is answered.
+-- What becomes of an event: its number, whether it is answered at once, and what one is answered that is taken in its
+-- caller's bytes.
 use Rattle.std.specs.Prelude.{ℕ, List, [], ◌∷◌}
 use Rattle.machine.specs.Fates.{answer_of}
 use Rattle.machine.specs.declared.event.Answer.{Answer}
@@ -28,7 +28,7 @@ abbrev pub given_by : GivenInPlace → List ℕ → Given
 given_by (given_in_place.Now number fate) packet = given.Now number (answer_of fate packet)
 given_by (given_in_place.Held number fate) packet = given.Held number
 
--- the numbered answer to a packet that has these bytes then
+-- the numbered answer to an event, of which a packet has these bytes then
 abbrev pub answer_given : GivenInPlace → List ℕ → ℕ × Answer
 answer_given (given_in_place.Now number fate) packet = (number, answer_of fate packet)
 answer_given (given_in_place.Held number fate) packet = (number, answer_of fate packet)

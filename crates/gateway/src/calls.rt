@@ -3,8 +3,8 @@
 //!
 //! - `open`: `Store::open` reads the files, and `resume_core` has a core begin again from what they stood for.
 //! - `offer`: `Core::step_noted` does the step and has `Pending` note its entries; `give` answers at once, or holds.
-//! - `forward`: `Core::forward` translates a packet where it lies, if nothing has to be held or noted.
-//! - `offer_in_place`: as `offer`, by `Core::take_packet` and `give_copy`, for a packet where it lies.
+//! - `take_packet`: as `offer`, by `Core::take_packet` and `give_copy`, for a packet where it lies.
+//! - `take_event`: so for a load or a moment, by `Core::step_noted` and `give_copy`.
 //! - `flush`: `Store::commit` syncs the group of `Pending`, and `Pending::release` hands out what was held.
 //! - `settle`: as `flush`, but `Pending::let_go` lets go what was held: its caller has it already.
 //! - `compact`: `Store::compact` makes a file of what must survive (`lasting_sessions`), with no groups.

@@ -1,8 +1,8 @@
 //! One more event of a run, taken in its caller's bytes. Whoever calls these has each held answer already, as it was
 //! told; so what is held is settled, and nothing is handed out.
 //!
-//! - `take_packet`: `Gateway::take_packet` takes the packet. Where it is refused for want of room, `retake_packet` settles
-//!   the held answers (`settle_held_full`), or settles and compacts (`make_room`), and it is taken again
+//! - `take_packet`: `Gateway::take_packet` takes the packet. Where it is refused for want of room, `retake_packet`
+//!   settles the held answers (`settle_held_full`), or settles and compacts (`make_room`), and it is taken again
 //! - `take_load`, `take_moment`: so does `take_event` an event without a packet, by `Gateway::take_event`
 ghost use Rattle.std.specs.Prelude.{◌≡◌, ◌≢◌, ◌^◌, ◌<◌, ◌≤◌, ◌∷◌, [], ℕ, List, false, length};
 ghost use Rattle.std.specs.Prelude.{IfErr, IfOk, OnErr, OnOk, true};
@@ -21,9 +21,9 @@ use disk_model::Disk;
 use machine::{Event, Iface, What};
 
 /// Takes a packet where it lies, as `take` takes an event: it is translated there, and what it is answered is told,
-/// whether it is answered at once or its answer is held. Where it is refused since 64 answers are held, these are settled,
-/// since their caller has them, and it is taken again; where it is refused as `Full` the files are made short too. The
-/// moment is in seconds.
+/// whether it is answered at once or its answer is held. Where it is refused since 64 answers are held, these are
+/// settled, since their caller has them, and it is taken again; where it is refused as `Full` the files are made short
+/// too. The moment is in seconds.
 ///
 /// # Errors
 ///

@@ -1,5 +1,5 @@
-//! What a packet comes to: by its session that goes on (`answer_going`), or by a plan (`answer_planned`). It is translated
-//! where it lies.
+//! What a packet comes to: by its session that goes on (`answer_going`), or by a plan (`answer_planned`). It is
+//! translated where it lies.
 ghost use Rattle.std.specs.Prelude.{◌≡◌, ◌≤◌, [], length, Ok, Result, Some, IsTrue, false, IfOk, IfErr, IfSome, IsOk, IsOkAnd, OnErr};
 ghost use Rattle.packet.specs.Fields.{fields};
 ghost use Rattle.sessions.specs.Listing.{listing};

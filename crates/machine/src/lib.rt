@@ -12,8 +12,7 @@
 //! - `deed`: what an event does, once its text is read.
 //! - `in_force`: the text that loaded last, with its rules.
 //! - `state`: `State`, what a step changes: the clock rises and sessions end (`age`), and then the event is answered. A
-//!   packet that shows nothing new of its session is sent on at once, and any other goes by a plan; `answering` does
-//!   what was found.
+//!   packet whose session goes on, by a guess, has no plan, and any other goes by one; `answering` does what was found.
 //! - `core_state`: `Core`, which has all the state and takes a step for each event (`step`, `step_noted`). Any packet
 //!   it also takes where the packet lies, for which no `Event` is made (`take_packet`).
 //! - `notes`: where a step notes the entries by which it changes what must survive (crate `durable`).

@@ -2,8 +2,8 @@
 //! the sessions end that are no longer alive (`age`), and then the event is answered at that moment (`answer_deed`,
 //! `answer_packet`). If it is refused, no session has ended, and the clock is put back (`put_back`).
 //!
-//! - `answer_packet`: at once, if the packet shows nothing new of its session (`hairpin::goes_on`, `answering::send_on`),
-//!   or else by a plan (`answer_by_plan`: `plan_for`, `answering::answer_planned`).
+//! - `answer_packet`: at once, if a guess tells the packet's session, and that goes on (`hairpin::goes_on`,
+//!   `answering::answer_going`), or else by a plan (`answer_by_plan`: `plan_for`, `answering::answer_planned`).
 ghost use Rattle.std.specs.Prelude.{◌≡◌, ◌<◌, ◌≤◌, ◌+◌, ◌*◌, [], List, length, OnOk, Ok, IsErrOf, IsTrue, false, IfOk, IfErr, IfSome, IsOk, OnErr};
 ghost use Rattle.packet.specs.Fields.{fields};
 ghost use Rattle.packet.specs.Route.{route as route_for};
@@ -194,6 +194,7 @@ impl State {
 
     /// What a packet comes to, at the clock's moment; `ready` says that there is room for two sessions and their entries
     /// already. One that leaves is translated where it lies.
+    // Not compiled into its callers, in which it had too few registers.
     #[inline(never)]
     pub(crate) fn answer_packet<N: Notes>(
         &mut self,
@@ -246,9 +247,9 @@ impl State {
         }
     }
 
-    // What a packet with these fields comes to, on its route, by the plan that was told, or is made for it; `ready` says
-    // that there is room for two sessions and their entries already. Not compiled into its caller, so that a packet that
-    // shows nothing new of its session clears no place for a plan.
+    // What a packet with these fields comes to, on its route, by the plan that is made for it; `ready` says that there is
+    // room for two sessions and their entries already. Not compiled into its caller, so that a packet whose session goes
+    // on clears no place for a plan.
     #[inline(never)]
     fn answer_by_plan<N: Notes>(
         &mut self,
@@ -288,8 +289,8 @@ impl State {
         answer_planned(&mut self.flows, ready, &plan, packet, self.clock, notes)
     }
 
-    // The plan of a packet with these fields, on its route: the one that was told, or what the leg says. Compiled into
-    // its caller, it took fewer instructions.
+    // The plan of a packet with these fields, on its route, as the leg says. Compiled into its caller, it took fewer
+    // instructions.
     #[inline(always)]
     fn plan_for(&self, route: Route, view: &View) -> Result<Plan, Cause>
         requires ports { (0 < view.now.src.port) × (0 < view.now.dst.port) }

@@ -1,8 +1,15 @@
 -- How many packets there were, by the answers. At the greatest u64 a count stays.
-use Rattle.std.specs.Prelude.{◌≡◌, ℕ, ◌+◌, ◌-◌, ◌^◌, ◌==◌, min, Bool, true, false, List, [], ◌∷◌, length, nat_le, nat_lt, slice_index, slice_set, if◌then◌else◌}
+use Rattle.std.specs.Prelude.{◌≡◌, ℕ, ◌+◌, ◌-◌, ◌^◌, ◌==◌, min, Bool, true, false, List, [], ◌∷◌, length, nat_le, nat_lt, replicate, slice_index, slice_set, if◌then◌else◌}
 use Rattle.to_devices.specs.Replies.{Reply}
 use Rattle.to_devices.specs.declared.counts.Counts.{Counts}
 use Rattle.to_devices.specs.declared.counts.Side.{Side}
+
+-- nothing yet
+abbrev pub no_packets : Side
+no_packets = record { left = 0; left_bytes = 0; lost = 0; dropped = replicate 21 0 }
+
+abbrev pub no_counts : Counts
+no_counts = record { lan = no_packets; wan = no_packets; loaded = 0; refused = 0 }
 
 -- so many more
 abbrev pub with_more : ℕ → ℕ → ℕ

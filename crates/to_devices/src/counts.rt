@@ -1,6 +1,6 @@
 //! How many packets there were. The counts are for people. At the greatest u64 a count stays.
 ghost use Rattle.std.specs.Prelude.{◌≡◌, ◌≢◌, ◌≤◌, false, drop, length, slice_index};
-ghost use Rattle.to_devices.specs.Counting.{counted, drops_one, handed_on};
+ghost use Rattle.to_devices.specs.Counting.{counted, drops_one, handed_on, no_counts, no_packets};
 
 /// How many causes of drops there are, and one more: 0 is none.
 pub const CAUSES: usize = 21;
@@ -42,7 +42,9 @@ pub struct Counts {
 }
 
 impl Side {
-    fn none() -> Side {
+    fn none() -> Side
+        ensures { result ≡ no_packets }
+    {
         Side {
             left: 0,
             left_bytes: 0,
@@ -80,7 +82,9 @@ impl Side {
 
 impl Counts {
     /// There was nothing yet.
-    pub fn none() -> Counts {
+    pub fn none() -> Counts
+        ensures { result ≡ no_counts }
+    {
         Counts {
             lan: Side::none(),
             wan: Side::none(),
