@@ -9,9 +9,7 @@ use Rattle.gateway.specs.Kept.{Kept}
 use Rattle.gateway.specs.Told.{Told}
 use Rattle.to_devices.specs.declared.counts.Counts.{Counts}
 use Rattle.gateway.proofs.Taking.{took_none}
-use Rattle.machine.specs.Laws.{EventsAreJudgedOnce}
 use Rattle.machine.specs.Machine.{later}
-use Rattle.machine.specs.declared.event.Event.{Event}
 use Rattle.socket_edge.specs.declared.fault.EdgeFault.{EdgeFault}
 use Rattle.socket_edge.specs.Running.{Fares}
 use Rattle.to_devices.proofs.Letting.{Hands-nil}
@@ -19,11 +17,11 @@ use Rattle.from_devices.proofs.Gathering.{Gives-nil, Gives-then}
 use Rattle.carrying.specs.Asking.{Asks, AsksFor, IsOver}
 use Rattle.carrying.specs.Carried.{Carries, Fails, handed_to}
 use Rattle.carrying.specs.Counted.{CountsTurn, CountsTurns}
-use Rattle.carrying.specs.Runs.{ComesBy, EachTakesAll, Ran, all_events, all_headers, asked_of, from_lan, from_wan, last_of}
+use Rattle.carrying.specs.Runs.{AtEachTurn, EachTakesAll, Ran, all_events, all_headers, asked_of, from_lan, from_wan, last_of}
 use Rattle.carrying.specs.Turns.{Gave, TakesAll, Turn, events_of, headers_of}
-use Rattle.carrying.proofs.Joined.{AsksFor-nil, all_long, asked-then, events-then, fares-behind, headers-then, lan-then, last-then, wan-then}
+use Rattle.carrying.proofs.Joined.{AsksFor-nil, asked-then, events-then, fares-behind, lan-then, last-then, wan-then}
 use Rattle.carrying.proofs.Taken.{each-first, each-then, takes-as}
-use Rattle.carrying.proofs.Stopping.{Trail, comes-end, comes-on, trail-first, trail-then}
+use Rattle.carrying.proofs.Stopping.{Trail, stops-then, trail-first, trail-then}
 
 -- What is said of the packets that one more turn took of a device may be said of all since the first turn.
 abbrev pub Then : (ℕ → List (List ℕ) → Type 0) → (List Turn → List (List ℕ)) → ℕ → Frames → Frames → List (List ℕ) → Type 0 → Type 0
@@ -49,13 +47,12 @@ module _ {D : Type 0} (honest : D → Type 0) (moment : D → ℕ) (left : D →
       pub moment_is : at ≡ last_of last turns
       pub counted : CountsTurns last turns start.told now.told counts counts'
       pub stands : now.fallen ≡ false
-      pub trail : Trail honest moment left start now last turns (all_events last turns) (all_headers last turns) lan_handed lan_handed' wan_handed wan_handed'
+      pub trail : Trail honest moment left start now last turns lan_handed lan_handed' wan_handed wan_handed'
 
   -- none yet
-  pub going-first : (earlier : (disk : D) (s t : ℕ) (files : Files) → s ≤ t → left disk t files → left disk s files) → EventsAreJudgedOnce
-      → (start : Kept D) (last : ℕ) (asks : Asks) (lan wan lan_handed wan_handed : Frames) (counts : Counts) → start.fallen ≡ false → start.told.held ≡ [] → Fares honest moment left start start [] []
+  pub going-first : (start : Kept D) (last : ℕ) (asks : Asks) (lan wan lan_handed wan_handed : Frames) (counts : Counts) → start.fallen ≡ false → start.told.held ≡ [] → Fares honest moment left start start [] []
       → Going start start last last 0 asks asks lan lan wan wan lan_handed lan_handed wan_handed wan_handed counts counts
-  going-first earlier once start last asks lan wan lan_handed wan_handed counts stands none fares = record {
+  going-first start last asks lan wan lan_handed wan_handed counts stands none fares = record {
     turns = [];
     count = refl;
     asked = AsksFor-nil asks;
@@ -66,7 +63,7 @@ module _ {D : Type 0} (honest : D → Type 0) (moment : D → ℕ) (left : D →
     counted = (refl, refl);
     stands = stands;
     trail =
-        trail-first honest moment left earlier once start last lan_handed wan_handed
+        trail-first honest moment left start last lan_handed wan_handed
         (record {
           answered = [];
           took = took_none start.told;
@@ -87,9 +84,9 @@ module _ {D : Type 0} (honest : D → Type 0) (moment : D → ℕ) (left : D →
         (subst (λ (m : ℕ). TakesAll m turn A B) is one))
 
     -- one more
-    pub going-next : EventsAreJudgedOnce → (last at at' done : ℕ) (turn : Turn) (a a' a'' : Asks) (l l' l'' w w' w'' k k' k'' v v' v'' : Frames) (A B : Type 0) (c c' c'' : Counts) → Then P from_lan done l l' turn.lan A → Then Q from_wan done w w' turn.wan B → Going start now last at done a a' l l' w w' k k' v v' c c' → AsksFor a' a'' (asked_of turn ∷ []) → Gave turn l' l'' w' w'' → TakesAll at turn A B → at' ≡ later at turn.moment
+    pub going-next : (last at at' done : ℕ) (turn : Turn) (a a' a'' : Asks) (l l' l'' w w' w'' k k' k'' v v' v'' : Frames) (A B : Type 0) (c c' c'' : Counts) → Then P from_lan done l l' turn.lan A → Then Q from_wan done w w' turn.wan B → Going start now last at done a a' l l' w w' k k' v v' c c' → AsksFor a' a'' (asked_of turn ∷ []) → Gave turn l' l'' w' w'' → TakesAll at turn A B → at' ≡ later at turn.moment
         → new.fallen ≡ false → Carries honest moment left now new (events_of at turn) (headers_of at turn) k' k'' v' v'' → CountsTurn at turn now.told new.told c' c'' → Going start new last at' (done + 1) a a'' l l'' w w'' k k'' v v'' c c''
-    going-next once last at at' done turn a a' a'' l l' l'' w w' w'' k k' k'' v v' v'' A B c c' c'' more-lan more-wan i asked gave takes is stands carries counts =
+    going-next last at at' done turn a a' a'' l l' l'' w w' w'' k k' k'' v v' v'' A B c c' c'' more-lan more-wan i asked gave takes is stands carries counts =
         let there : last_of last i.turns ≡ at = sym i.moment_is in
         let one : Carries honest moment left now new (events_of (last_of last i.turns) turn) (headers_of (last_of last i.turns) turn) k' k'' v' v'' =
         subst (λ (m : ℕ). Carries honest moment left now new (events_of m turn) (headers_of m turn) k' k'' v' v'') i.moment_is carries in
@@ -103,9 +100,7 @@ module _ {D : Type 0} (honest : D → Type 0) (moment : D → ℕ) (left : D →
           moment_is = is ∙ ap (λ (m : ℕ). later m turn.moment) i.moment_is ∙ sym (last-then last i.turns turn);
           counted = counts-then last i.turns turn start.told now.told new.told c c' c'' i.counted (subst (λ (m : ℕ). CountsTurn m turn now.told new.told c' c'') i.moment_is counts);
           stands = stands;
-          trail = rw (events-then last i.turns turn, headers-then last i.turns turn)
-              (trail-then honest moment left earlier once start now new last i.turns turn (all_events last i.turns) (events_of (last_of last i.turns) turn) (all_headers last i.turns) (headers_of (last_of last i.turns) turn)
-              k k' k'' v v' v'' stood i.stands none (all_long last i.turns) (events-then last i.turns turn) (headers-then last i.turns turn) i.trail one);
+          trail = trail-then honest moment left earlier start now new last i.turns turn k k' k'' v v' v'' stood i.stands none i.trail one;
         }
 
     -- and one that failed
@@ -114,7 +109,10 @@ module _ {D : Type 0} (honest : D → Type 0) (moment : D → ℕ) (left : D →
         → c'' ≡ c' → (run : Ran honest moment left start new (Err fault) last a a'' l l'' w w'' k k'' v v'') × (run.settled ≡ now) × EachTakesAll last P Q (run.turns ++ run.failed) × CountsTurns last run.turns start.told run.settled.told c c''
     ran-fails last at done fault turn a a' a'' l l' l'' w w' w'' k k' k'' v v' v'' A B c c' c'' more-lan more-wan i asked gave takes f same =
         let fares : Fares honest moment left now new (events_of (last_of last i.turns) turn) f.sent =
-        subst (λ (m : ℕ). Fares honest moment left now new (events_of m turn) f.sent) i.moment_is f.fares in (
+        subst (λ (m : ℕ). Fares honest moment left now new (events_of m turn) f.sent) i.moment_is f.fares in
+        let to_lan : Hands k' k'' [] = subst (λ (x : Frames). Hands k' x []) (sym f.to_lan) (Hands-nil k') in
+        let to_wan : Hands v' v'' [] = subst (λ (x : Frames). Hands v' x []) (sym f.to_wan) (Hands-nil v') in
+        let stops = stops-then honest moment left start now new last i.turns turn k k' k'' v v' v'' [] [] i.trail i.stands f.sent fares to_lan to_wan in (
           record {
             turns = i.turns;
             failed = turn ∷ [];
@@ -132,10 +130,8 @@ module _ {D : Type 0} (honest : D → Type 0) (moment : D → ℕ) (left : D →
             more = f.sent;
             fares = rw (events-then last i.turns turn)
                 (fares-behind honest moment left earlier start now new stood i.stands none (all_events last i.turns) (events_of (last_of last i.turns) turn) (all_headers last i.turns) k k' v v' f.sent i.trail.carries fares);
-            stops = λ before after e.
-                subst (λ (es : List Event). ComesBy honest moment left start new last before es k k'' v v'') (sym (events-then last i.turns turn))
-                (comes-on honest moment left start now (all_events last i.turns) (all_headers last i.turns) k k' v v' i.trail.carries earlier new i.stands last before (i.trail.passed before after e)
-                (events_of (last_of last i.turns) turn) f.sent k'' v'' fares f.to_lan f.to_wan);
+            stops = stops.0;
+            settles = stops.1;
           },
           refl,
           takes-next last at done i.turns turn l l' w w' A B i.moment_is i.count i.takes i.gave_lan i.gave_wan more-lan more-wan takes,
@@ -145,27 +141,28 @@ module _ {D : Type 0} (honest : D → Type 0) (moment : D → ℕ) (left : D →
   -- they ended well
   pub ran-ends : (start now : Kept D) (last at done : ℕ) (a a' : Asks) (l l' w w' k k' v v' : Frames) (c c' : Counts) → Going start now last at done a a' l l' w w' k k' v v' c c' → IsOver a' ⊎ (done ≡ 2 ^ 64 - 1)
       → (run : Ran honest moment left start now (Ok tt) last a a' l l' w w' k k' v v') × EachTakesAll last P Q (run.turns ++ run.failed) × CountsTurns last run.turns start.told run.settled.told c c'
-  ran-ends start now last at done a a' l l' w w' k k' v v' c c' i over = (
-    record {
-      turns = i.turns;
-      failed = [];
-      asked = rw (append-nil i.turns) i.asked;
-      ends = (refl, subst (λ (n : ℕ). IsOver a' ⊎ (n ≡ 2 ^ 64 - 1)) (sym i.count) over);
-      gave_lan = rw (append-nil i.turns) i.gave_lan;
-      gave_wan = rw (append-nil i.turns) i.gave_wan;
-      settled = now;
-      stays = λ none. refl;
-      answered = i.trail.carries.answered;
-      took = i.trail.carries.took;
-      none = i.trail.carries.none;
-      to_lan = i.trail.carries.to_lan;
-      to_wan = i.trail.carries.to_wan;
-      more = [];
-      fares = rw (append-nil i.turns, append-nil (frames i.trail.carries.answered)) i.trail.carries.fares;
-      stops = λ before after e.
-          subst (λ (ts : List Turn). ComesBy honest moment left start now last before (all_events last ts) k k' v v') (sym (append-nil i.turns))
-          (comes-end honest moment left start now (all_events last i.turns) (all_headers last i.turns) k k' v v' i.trail.carries last before (i.trail.passed before after e));
-    },
-    rw (append-nil i.turns) i.takes,
-    i.counted,
-  )
+  ran-ends start now last at done a a' l l' w w' k k' v v' c c' i over =
+      let stops : (stops : AtEachTurn honest moment left start now last (i.turns ++ []) k k' v v') × (stops.by i.turns ≡ now) =
+      subst (λ (ts : List Turn). (stops : AtEachTurn honest moment left start now last ts k k' v v') × (stops.by i.turns ≡ now)) (sym (append-nil i.turns)) (i.trail.stops, i.trail.stops.last) in (
+        record {
+          turns = i.turns;
+          failed = [];
+          asked = rw (append-nil i.turns) i.asked;
+          ends = (refl, subst (λ (n : ℕ). IsOver a' ⊎ (n ≡ 2 ^ 64 - 1)) (sym i.count) over);
+          gave_lan = rw (append-nil i.turns) i.gave_lan;
+          gave_wan = rw (append-nil i.turns) i.gave_wan;
+          settled = now;
+          stays = λ none. refl;
+          answered = i.trail.carries.answered;
+          took = i.trail.carries.took;
+          none = i.trail.carries.none;
+          to_lan = i.trail.carries.to_lan;
+          to_wan = i.trail.carries.to_wan;
+          more = [];
+          fares = rw (append-nil i.turns, append-nil (frames i.trail.carries.answered)) i.trail.carries.fares;
+          stops = stops.0;
+          settles = stops.1;
+        },
+        rw (append-nil i.turns) i.takes,
+        i.counted,
+      )

@@ -149,7 +149,7 @@ took-then old middle new es fs xs ys p q = record {
 
 module _ {D : Type 0} (honest : D → Type 0) (moment : D → ℕ) (left : D → ℕ → Files → Type 0) where
   -- what a run that carried on says of how the files fare
-  pub fares-any : (a b : Kept D) (es : List Event) (sent : List ℕ) → Fares honest moment left a b es sent → IsAtRest honest a → LeavesOnly moment left a.disk b.disk (IsSafe a.told.config a.told.state es 0)
+  fares-any : (a b : Kept D) (es : List Event) (sent : List ℕ) → Fares honest moment left a b es sent → IsAtRest honest a → LeavesOnly moment left a.disk b.disk (IsSafe a.told.config a.told.state es 0)
   fares-any a b es sent f ready =
       let o = f.outlives ready in
       narrows moment left a.disk b.disk (λ before files. IsSafe a.told.config a.told.state o.front 0 files) (λ before files. IsSafe a.told.config a.told.state es 0 files) o.any_moment
@@ -163,7 +163,7 @@ module _ {D : Type 0} (honest : D → Type 0) (moment : D → ℕ) (left : D →
         fares-then honest moment left moment earlier a b c es fs (frames k.answered) sent (record { handed = k.answered; took = k.took; sent = refl })
         (λ _. k.none) k.fares.was_honest (k.fares.stays_honest stands) (λ h. k.fares.configured h stood) (λ ready. fares-any a b es (frames k.answered) k.fares ready) stands f
 
-    unfoldable pub carries-then : (es fs : List Event) (hs gs : List (List ℕ)) (l l' l'' w w' w'' : Frames) → length hs ≡ length es
+    pub carries-then : (es fs : List Event) (hs gs : List (List ℕ)) (l l' l'' w w' w'' : Frames) → length hs ≡ length es
         → Carries honest moment left a b es hs l l' w w' → Carries honest moment left b c fs gs l' l'' w' w'' → Carries honest moment left a c (es ++ fs) (hs ++ gs) l l'' w w''
     carries-then es fs hs gs l l' l'' w w' w'' long k j =
         let long' : length hs ≡ length k.answered = long ∙ sym (answered_long a.told b.told es k.answered k.took none k.none) in

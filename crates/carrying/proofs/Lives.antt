@@ -18,11 +18,11 @@ module _ {D : Type 0} (honest : D → Type 0) (moment : D → ℕ) (left : D →
     (earlier : (disk : D) (s t : ℕ) (files : Files) → s ≤ t → left disk t files → left disk s files) (once : EventsAreJudgedOnce) where
   pub stops-are : CarryStopsAreLives honest moment left seen
   unfolding replies
-  stops-are config entry at begun old new events given last before came lan lan' wan wan' r by =
+  stops-are config entry at begun old now later events given last before turn lan lan' wan wan' r by =
       let k = by.since r.rests in
       let es = all_events last before in
       let hs = all_headers last before in
-      let carries : Carries honest moment left old by.now es hs lan by.to_lan.0 wan by.to_wan.0 = record {
+      let carries : Carries honest moment left old now es hs lan by.to_lan.0 wan by.to_wan.0 = record {
         answered = by.answered;
         took = by.took;
         none = by.none;
@@ -31,18 +31,18 @@ module _ {D : Type 0} (honest : D → Type 0) (moment : D → ℕ) (left : D →
         fares = by.until;
       } in
       record {
-        until = stopped-in honest moment left seen config entry at begun events given old r es by.took.judged by.answered by.now.told.held by.now.disk by.now.disk by.took.are_judged
+        until = stopped-in honest moment left seen config entry at begun events given old r es by.took.judged by.answered now.told.held now.disk now.disk by.took.are_judged
             (by.took.order ∙ ap (λ (l : List (ℕ × Answer)). l ++ replies old.told by.took.judged) r.rests.none)
-            (at-exit honest moment left old by.now es hs lan by.to_lan.0 wan by.to_wan.0 carries once r.rests)
-            (only_now moment left old.disk by.now.disk (IsConfigured old.told.config) (earlier by.now.disk) (by.until.configured r.rests.is_honest r.rests.stands));
-        by_then = runs-are honest moment left seen earlier config entry at begun old by.now events given es (frames by.answered) r by.until;
+            (at-exit honest moment left old now es hs lan by.to_lan.0 wan by.to_wan.0 carries once r.rests)
+            (only_now moment left old.disk now.disk (IsConfigured old.told.config) (earlier now.disk) (by.until.configured r.rests.is_honest r.rests.stands));
+        by_then = runs-are honest moment left seen earlier config entry at begun old now events given es (frames by.answered) r by.until;
         front = k.front;
         back = k.back;
         split = k.split;
         judged = k.judged;
         are_judged = k.are_judged;
         reached = k.reached;
-        since = stopped-in honest moment left seen config entry at begun events given old r k.front k.judged by.answered k.first.0 by.now.disk new.disk k.are_judged k.first.1
+        since = stopped-in honest moment left seen config entry at begun events given old r k.front k.judged by.answered k.first.0 now.disk later.disk k.are_judged k.first.1
             (λ files since. (k.since.each files since).2)
             (λ files since. (k.configured.each files since).2);
       }

@@ -1,11 +1,10 @@
 -- A run that is stopped in its midst.
-use Rattle.std.proofs.Common.{◌≡◌, ◌⊎◌, inl, inr, ℕ, ◌+◌, ◌≤◌, List, [], ◌∷◌, ◌++◌, false, length, take, refl, sym, ap, ◌∙◌, subst, arith, append_assoc, length-append}
+use Rattle.std.proofs.Common.{◌≡◌, inl, inr, ℕ, ◌+◌, ◌≤◌, List, [], ◌∷◌, ◌++◌, false, length, take, refl, sym, ap, ◌∙◌, subst, arith, append_assoc, length-append}
 use Rattle.std.proofs.lemmas.List.{append-nil, nil_from_length}
 use Rattle.std.proofs.Math.Seq.{take-length}
 use Rattle.disk_model.specs.Disk.{Files, LeavesNow, LeavesOnly}
-use Rattle.disk_model.proofs.Moments.{idle, only_now, only_then}
+use Rattle.disk_model.proofs.Moments.{narrows}
 use Rattle.packet.specs.Config.{Config}
-use Rattle.packet.specs.declared.endpoint.Iface.TheVariants.{Lan, Wan}
 use Rattle.devices.specs.Handing.{Frames, Hands}
 use Rattle.durable.specs.Recovery.{IsConfigured}
 use Rattle.frames.specs.Answers.{frames}
@@ -17,32 +16,36 @@ use Rattle.machine.proofs.Judging.{AreJudged-append, AreJudged-length}
 use Rattle.socket_edge.proofs.Answers.{Reached-then, reached-told}
 use Rattle.gateway.specs.Kept.{Kept, IsAtRest, IsSafe}
 use Rattle.gateway.specs.Told.{Told, TookAll}
-use Rattle.gateway.proofs.Runs.{safe-less}
 use Rattle.socket_edge.specs.Progress.{replies}
 use Rattle.socket_edge.specs.Running.{Fares}
 use Rattle.socket_edge.proofs.Answers.{all-once, replies-append, last_of as last_number}
 use Rattle.socket_edge.proofs.Lasting.{safe-behind, safe-fewer}
-use Rattle.to_devices.proofs.Letting.{Hands-nil, Hands-then}
-use Rattle.carrying.specs.Carried.{Carries, handed_to}
-use Rattle.carrying.specs.Runs.{ComesBy, HandsFirst, all_events, all_headers}
-use Rattle.carrying.specs.Turns.{Turn}
-use Rattle.carrying.proofs.Joined.{answered_long, carries-then, fares-any}
+use Rattle.to_devices.proofs.Letting.{Hands-then}
+use Rattle.carrying.specs.Carried.{Carries}
+use Rattle.carrying.specs.Runs.{AtEachTurn, ComesBy, HandsFirst, all_events, all_headers, last_of}
+use Rattle.carrying.specs.Turns.{Turn, events_of, headers_of}
+use Rattle.carrying.proofs.Joined.{all_long, answered_long, carries-then, events-then, headers-then}
+use Rattle.carrying.proofs.Taken.{place_of}
 
--- a beginning of turns and one more is one of these turns, or all of them
-front_of : (xs before after : List Turn) (t : Turn) → xs ++ t ∷ [] ≡ before ++ after → ((rest : List Turn) × (xs ≡ before ++ rest)) ⊎ (before ≡ xs ++ t ∷ [])
-front_of xs [] after t e = inl (xs, refl)
-front_of [] (b ∷ before) after t e =
-    let head : t ≡ b = cc in
-    let tail : [] ≡ before ++ after = cc in
-    let none : before ≡ [] = nil_from_length before (omega (arith, ap length tail, length-append before after)) in
-    inr (ap (λ (ts : List Turn). b ∷ ts) none ∙ ap (λ (x : Turn). x ∷ []) (sym head))
-front_of (x ∷ xs) (b ∷ before) after t e =
-    let head : x ≡ b = cc in
-    let tail : xs ++ t ∷ [] ≡ before ++ after = cc in
-    elim (front_of xs before after t tail) [
-      | inl r ↦ inl (r.0, ap (λ (h : Turn). h ∷ xs) head ∙ ap (λ (ts : List Turn). b ∷ ts) r.1)
-      | inr m ↦ inr (ap (λ (ts : List Turn). b ∷ ts) m ∙ ap (λ (h : Turn). h ∷ (xs ++ t ∷ [])) (sym head))
-    ]
+module _ {T : Type 0} where
+  -- behind each beginning of these turns as before, and another one behind one turn more
+  abbrev by_more : List Turn → (List Turn → T) → T → List Turn → T
+  by_more [] f one [] = f []
+  by_more [] f one (b ∷ before) = one
+  by_more (t ∷ turns) f one [] = f []
+  by_more (t ∷ turns) f one (b ∷ before) = by_more turns (λ (ts : List Turn). f (t ∷ ts)) one before
+
+  by_before : (before rest : List Turn) (f : List Turn → T) (one : T) → by_more (before ++ rest) f one before ≡ f before
+  by_before [] [] f one = refl
+  by_before [] (r ∷ rest) f one = refl
+  by_before (b ∷ before) rest f one = by_before before rest (λ (ts : List Turn). f (b ∷ ts)) one
+
+  by_at : (turns before rest : List Turn) (f : List Turn → T) (one : T) → turns ≡ before ++ rest → by_more turns f one before ≡ f before
+  by_at turns before rest f one e = ap (λ (ts : List Turn). by_more ts f one before) e ∙ by_before before rest f one
+
+  by_end : (turns : List Turn) (t : Turn) (f : List Turn → T) (one : T) → by_more turns f one (turns ++ t ∷ []) ≡ one
+  by_end [] t f one = refl
+  by_end (s ∷ turns) t f one = by_end turns t (λ (ts : List Turn). f (s ∷ ts)) one
 
 hands-more : (a b c : Frames) (xs more : List (List ℕ)) → HandsFirst a b xs → Hands b c more → HandsFirst a c xs
 hands-more a b c xs more p q = (p.0, p.1, (p.2.0 ++ more, Hands-then p.0 b c p.2.0 more p.2.1 q))
@@ -54,24 +57,10 @@ answered_are old new es out t none none' =
     sym (append-nil out) ∙ ap (λ (l : List (ℕ × Answer)). out ++ l) (sym none') ∙ t.order ∙ ap (λ (l : List (ℕ × Answer)). l ++ replies old t.judged) none
 
 module _ {D : Type 0} (honest : D → Type 0) (moment : D → ℕ) (left : D → ℕ → Files → Type 0) where
-  -- What a run that goes on knows of the turns behind it: as `ComesBy`, of events that were all taken. Their answers
-  -- are `all`.
-  pub record Passed (a b : Kept D) (last : ℕ) (before : List Turn) (es : List Event) (all : List (ℕ × Answer)) (lan lan' wan wan' : Frames) : Type 0 where
-    pub now : Kept D
-    pub answered : List (ℕ × Answer)
-    pub took : TookAll a.told now.told (all_events last before) answered
-    pub none : now.told.held ≡ []
-    pub until : Fares honest moment left a now (all_events last before) (frames answered)
-    pub to_lan : HandsFirst lan lan' (handed_to Lan (all_headers last before) answered)
-    pub to_wan : HandsFirst wan wan' (handed_to Wan (all_headers last before) answered)
-    pub first : (more : List (ℕ × Answer)) × (answered ++ more ≡ all)
-    pub since : IsAtRest honest a → LeavesOnly moment left now.disk b.disk (IsSafe a.told.config a.told.state es (length answered))
-    pub configured : IsAtRest honest a → LeavesOnly moment left now.disk b.disk (IsConfigured a.told.config)
-
-  -- Turns that were carried, and what is known behind each beginning of them.
-  pub record Trail (a b : Kept D) (last : ℕ) (turns : List Turn) (es : List Event) (hs : List (List ℕ)) (lan lan' wan wan' : Frames) : Type 0 where
-    pub carries : Carries honest moment left a b es hs lan lan' wan wan'
-    pub passed : (before after : List Turn) → turns ≡ before ++ after → Passed a b last before es carries.answered lan lan' wan wan'
+  -- Turns that were carried, and by which gateways.
+  pub record Trail (a b : Kept D) (last : ℕ) (turns : List Turn) (lan lan' wan wan' : Frames) : Type 0 where
+    pub carries : Carries honest moment left a b (all_events last turns) (all_headers last turns) lan lan' wan wan'
+    pub stops : AtEachTurn honest moment left a b last turns lan lan' wan wan'
 
   module _ (a b : Kept D) (es : List Event) (hs : List (List ℕ)) (l l' w w' : Frames) (k : Carries honest moment left a b es hs l l' w w') where
     -- a crash at the exit loses none of them
@@ -90,140 +79,109 @@ module _ {D : Type 0} (honest : D → Type 0) (moment : D → ℕ) (left : D →
         subst (λ (xs : List Event). LeavesNow moment left b.disk (IsSafe a.told.config a.told.state xs n)) (sym same)
         (o.at_exit n (omega (arith, many, ap length same)) (omega (arith, ap (λ (xs : List (ℕ × Answer)). length (frames xs)) whole)))
 
-    -- the run ends
-    pub comes-end : (last : ℕ) (before : List Turn) → Passed a b last before es k.answered l l' w w' → ComesBy honest moment left a b last before es l l' w w'
-    comes-end last before p = record {
-      now = p.now;
-      answered = p.answered;
-      took = p.took;
-      none = p.none;
-      until = p.until;
-      to_lan = p.to_lan;
-      to_wan = p.to_wan;
-      since = λ ready. record {
-        front = es;
-        back = [];
-        split = sym (append-nil es);
-        judged = k.took.judged;
-        are_judged = k.took.are_judged;
-        reached = reached-told a.told b.told es k.answered k.took;
-        first = (p.first.0, p.first.1 ∙ answered_are a.told b.told es k.answered k.took ready.none k.none);
-        since = p.since ready;
-        configured = p.configured ready;
-      };
-    }
+  module _ (a b c : Kept D) (last : ℕ) (turns : List Turn) (turn : Turn) (l l' l'' w w' w'' : Frames) (xs ys : List (List ℕ)) (t : Trail a b last turns l l' w w') (stands : b.fallen ≡ false)
+      (sent : List ℕ) (f : Fares honest moment left b c (events_of (last_of last turns) turn) sent) (to_lan : Hands l' l'' xs) (to_wan : Hands w' w'' ys) where
+    abbrev by : List Turn → Kept D
+    by before = by_more turns t.stops.by c before
 
-    module _ (earlier : (disk : D) (s t : ℕ) (files : Files) → s ≤ t → left disk t files → left disk s files) where
-      -- behind all of them
-      passed-end : EventsAreJudgedOnce → (last : ℕ) (turns : List Turn) → all_events last turns ≡ es → all_headers last turns ≡ hs → Passed a b last turns es k.answered l l' w w'
-      passed-end once last turns events headers = record {
-        now = b;
-        answered = k.answered;
-        took = subst (λ (xs : List Event). TookAll a.told b.told xs k.answered) (sym events) k.took;
-        none = k.none;
-        until = subst (λ (xs : List Event). Fares honest moment left a b xs (frames k.answered)) (sym events) k.fares;
-        to_lan = (l', subst (λ (x : List (List ℕ)). Hands l l' (handed_to Lan x k.answered)) (sym headers) k.to_lan, ([], Hands-nil l'));
-        to_wan = (w', subst (λ (x : List (List ℕ)). Hands w w' (handed_to Wan x k.answered)) (sym headers) k.to_wan, ([], Hands-nil w'));
-        first = ([], append-nil k.answered);
-        since = λ ready. idle moment left b.disk (IsSafe a.told.config a.told.state es (length k.answered)) (at-exit once ready);
-        configured = λ ready. idle moment left b.disk (IsConfigured a.told.config)
-            (only_now moment left a.disk b.disk (IsConfigured a.told.config) (earlier b.disk) (k.fares.configured ready.is_honest ready.stands));
-      }
-
-      module _ (c : Kept D) (stands : b.fallen ≡ false) (last : ℕ) (before : List Turn) (p : Passed a b last before es k.answered l l' w w') where
-        rested : IsAtRest honest a → IsAtRest honest b
-        rested ready = record { stands = stands; is_honest = k.fares.stays_honest stands ready.is_honest; none = k.none }
-
-        few : IsAtRest honest a → length p.answered ≤ length es
-        few ready = omega (arith, ap length p.first.1, length-append p.answered p.first.0, answered_long a.told b.told es k.answered k.took ready.none k.none)
-
-        -- what comes behind loses none of what was safe
-        since-on : (ready : IsAtRest honest a) (fs : List Event) → LeavesOnly moment left b.disk c.disk (IsSafe b.told.config b.told.state fs 0)
-            → LeavesOnly moment left p.now.disk c.disk (IsSafe a.told.config a.told.state (es ++ fs) (length p.answered))
-        since-on ready fs then =
-            let n = length p.answered in
-            only_then moment left p.now.disk b.disk c.disk (IsSafe a.told.config a.told.state es n) (IsSafe b.told.config b.told.state fs 0) (IsSafe a.told.config a.told.state (es ++ fs) n)
-            (earlier b.disk) (p.since ready) then
-            (λ files is. safe-less a.told.config a.told.state es fs n n files (omega arith) is)
-            (λ files is. safe-fewer a.told.config a.told.state (es ++ fs) (length es + 0) n files (omega (arith, few ready))
-            (safe-behind a.told b.told es fs k.took.judged 0 files k.took.are_judged k.took.config k.took.state is))
-
-        configured-on : (ready : IsAtRest honest a) → LeavesOnly moment left b.disk c.disk (IsConfigured b.told.config) → LeavesOnly moment left p.now.disk c.disk (IsConfigured a.told.config)
-        configured-on ready then =
-            only_then moment left p.now.disk b.disk c.disk (IsConfigured a.told.config) (IsConfigured a.told.config) (IsConfigured a.told.config) (earlier b.disk) (p.configured ready)
-            (subst (λ (i : Config). LeavesOnly moment left b.disk c.disk (IsConfigured i)) k.took.config then) (λ files is. is) (λ files is. is)
-
-        -- a turn more
-        passed-on : (fs : List Event) (gs : List (List ℕ)) (l'' w'' : Frames) (j : Carries honest moment left b c fs gs l' l'' w' w'')
-            → Passed a c last before (es ++ fs) (k.answered ++ j.answered) l l'' w w''
-        passed-on fs gs l'' w'' j = record {
-          now = p.now;
-          answered = p.answered;
-          took = p.took;
-          none = p.none;
-          until = p.until;
-          to_lan = hands-more l l' l'' _ _ p.to_lan j.to_lan;
-          to_wan = hands-more w w' w'' _ _ p.to_wan j.to_wan;
-          first = (p.first.0 ++ j.answered, sym (append_assoc p.answered p.first.0 j.answered) ∙ ap (λ (xs : List (ℕ × Answer)). xs ++ j.answered) p.first.1);
-          since = λ ready. since-on ready fs (fares-any honest moment left b c fs (frames j.answered) j.fares (rested ready));
-          configured = λ ready. configured-on ready (j.fares.configured (rested ready).is_honest stands);
-        }
-
-        -- a turn more that fails
-        pub comes-on : (fs : List Event) (sent : List ℕ) (l'' w'' : Frames) → Fares honest moment left b c fs sent → l'' ≡ l' → w'' ≡ w' → ComesBy honest moment left a c last before (es ++ fs) l l'' w w''
-        comes-on fs sent l'' w'' f lan wan = record {
-          now = p.now;
-          answered = p.answered;
-          took = p.took;
-          none = p.none;
-          until = p.until;
-          to_lan = subst (λ (x : Frames). HandsFirst l x (handed_to Lan (all_headers last before) p.answered)) (sym lan) p.to_lan;
-          to_wan = subst (λ (x : Frames). HandsFirst w x (handed_to Wan (all_headers last before) p.answered)) (sym wan) p.to_wan;
+    -- a turn more, which may have failed
+    comes-on : ComesBy honest moment left a b c last turns turn l l'' w w''
+    comes-on =
+        let k = t.carries in
+        let es = all_events last turns in
+        let js = k.took.judged in
+        record {
+          answered = k.answered;
+          took = k.took;
+          none = k.none;
+          until = k.fares;
+          to_lan = (l', k.to_lan, (xs, to_lan));
+          to_wan = (w', k.to_wan, (ys, to_wan));
           since = λ ready.
-              let o = f.outlives (rested ready) in
-              let js = k.took.judged in
-              let first = replies a.told js in
+              let rested : IsAtRest honest b = record { stands = stands; is_honest = k.fares.stays_honest stands ready.is_honest; none = k.none } in
+              let o = f.outlives rested in
               let then = replies b.told o.judged in
-              let are : k.answered ≡ first = answered_are a.told b.told es k.answered k.took ready.none k.none in
+              let n = length k.answered in
+              let long : n ≡ length es = answered_long a.told b.told es k.answered k.took ready.none k.none in
               record {
                 front = es ++ o.front;
                 back = o.back;
-                split = ap (λ (xs : List Event). es ++ xs) o.split ∙ sym (append_assoc es o.front o.back);
+                split = events-then last turns turn ∙ ap (λ (x : List Event). es ++ x) o.split ∙ sym (append_assoc es o.front o.back);
                 judged = js ++ o.judged;
                 are_judged = AreJudged-append a.told.config es o.front js o.judged k.took.are_judged (subst (λ (i : Config). AreJudged i o.front o.judged) k.took.config o.are_judged);
                 reached = Reached-then a.told b.told c.told js o.judged (reached-told a.told b.told es k.answered k.took) o.reached;
                 first = (
-                  p.first.0 ++ then,
-                  sym (append_assoc p.answered p.first.0 then) ∙ ap (λ (xs : List (ℕ × Answer)). xs ++ then) (p.first.1 ∙ are)
+                  then,
+                  ap (λ (x : List (ℕ × Answer)). x ++ then) (answered_are a.told b.told es k.answered k.took ready.none k.none)
                       ∙ sym (replies-append a.told b.told js o.judged k.took.config k.took.state (last_number a.told b.told es k.answered k.took)),
                 );
-                since = since-on ready o.front o.any_moment;
-                configured = configured-on ready (f.configured (rested ready).is_honest stands);
+                since = narrows moment left b.disk c.disk (λ before files. IsSafe b.told.config b.told.state o.front 0 files) (λ before files. IsSafe a.told.config a.told.state (es ++ o.front) n files) o.any_moment
+                    (λ before files was is. safe-fewer a.told.config a.told.state (es ++ o.front) (length es + 0) n files (omega (arith, long))
+                    (safe-behind a.told b.told es o.front js 0 files k.took.are_judged k.took.config k.took.state is));
+                configured = subst (λ (i : Config). LeavesOnly moment left b.disk c.disk (IsConfigured i)) k.took.config (f.configured rested.is_honest stands);
               };
         }
 
-  module _ (earlier : (disk : D) (s t : ℕ) (files : Files) → s ≤ t → left disk t files → left disk s files) (once : EventsAreJudgedOnce) where
-    -- none yet
-    pub trail-first : (a : Kept D) (last : ℕ) (l w : Frames) → Carries honest moment left a a [] [] l l w w → Trail a a last [] [] [] l l w w
-    trail-first a last l w k = record {
-      carries = k;
-      passed = λ before after e.
-          let none : before ≡ [] = nil_from_length before (omega (arith, ap length e, length-append before after)) in
-          subst (λ (ts : List Turn). Passed a a last ts [] k.answered l l w w) (sym none) (passed-end a a [] [] l l w w k earlier once last [] refl refl);
-    }
+    at_before : by turns ≡ b
+    at_before = by_at turns turns [] t.stops.by c (sym (append-nil turns)) ∙ t.stops.last
 
-    -- one more
-    pub trail-then : (a b c : Kept D) (last : ℕ) (turns : List Turn) (turn : Turn) (es fs : List Event) (hs gs : List (List ℕ)) (l l' l'' w w' w'' : Frames)
-        → a.fallen ≡ false → b.fallen ≡ false → a.told.held ≡ [] → length hs ≡ length es → all_events last (turns ++ turn ∷ []) ≡ es ++ fs → all_headers last (turns ++ turn ∷ []) ≡ hs ++ gs
-        → Trail a b last turns es hs l l' w w' → Carries honest moment left b c fs gs l' l'' w' w'' → Trail a c last (turns ++ turn ∷ []) (es ++ fs) (hs ++ gs) l l'' w w''
-    unfolding carries-then
-    trail-then a b c last turns turn es fs hs gs l l' l'' w w' w'' stood stands none long events headers k j =
-        let whole = carries-then honest moment left earlier a b c stood stands none es fs hs gs l l' l'' w w' w'' long k.carries j in
-        record {
-          carries = whole;
-          passed = λ before after e. elim (front_of turns before after turn e) [
-            | inl r ↦ passed-on a b es hs l l' w w' k.carries earlier c stands last before (k.passed before r.0 r.1) fs gs l'' w'' j
-            | inr all ↦ subst (λ (ts : List Turn). Passed a c last ts (es ++ fs) whole.answered l l'' w w'') (sym all)
-                (passed-end a c (es ++ fs) (hs ++ gs) l l'' w w'' whole earlier once last (turns ++ turn ∷ []) events headers)
-          ];
-        }
+    comes-last : ComesBy honest moment left a (by turns) (by (turns ++ turn ∷ [])) last turns turn l l'' w w''
+    comes-last =
+        subst (λ (x : Kept D). ComesBy honest moment left a x (by (turns ++ turn ∷ [])) last turns turn l l'' w w'') (sym at_before)
+        (subst (λ (x : Kept D). ComesBy honest moment left a b x last turns turn l l'' w w'') (sym (by_end turns turn t.stops.by c)) comes-on)
+
+    -- one of the turns before: the devices were handed more
+    comes-earlier : (before rest : List Turn) (u : Turn) → turns ≡ before ++ u ∷ rest → ComesBy honest moment left a (by before) (by (before ++ u ∷ [])) last before u l l'' w w''
+    comes-earlier before rest u e =
+        let next = before ++ u ∷ [] in
+        let p = t.stops.each before u rest e in
+        subst (λ (x : Kept D). ComesBy honest moment left a x (by next) last before u l l'' w w'') (sym (by_at turns before (u ∷ rest) t.stops.by c e))
+        (subst (λ (x : Kept D). ComesBy honest moment left a (t.stops.by before) x last before u l l'' w w'') (sym (by_at turns next rest t.stops.by c (e ∙ sym (append_assoc before (u ∷ []) rest))))
+        (record {
+          answered = p.answered;
+          took = p.took;
+          none = p.none;
+          until = p.until;
+          to_lan = hands-more l l' l'' _ xs p.to_lan to_lan;
+          to_wan = hands-more w w' w'' _ ys p.to_wan to_wan;
+          since = p.since;
+        }))
+
+    -- the run comes by one gateway more
+    pub stops-then : (stops : AtEachTurn honest moment left a c last (turns ++ turn ∷ []) l l'' w w'') × (stops.by turns ≡ b)
+    stops-then = (
+      record {
+        by = by;
+        first = by_at turns [] turns t.stops.by c refl ∙ t.stops.first;
+        last = by_end turns turn t.stops.by c;
+        each = λ before u after e. elim (place_of turns before after turn u e) [
+          | inl r ↦ comes-earlier before r.0 u r.1
+          | inr m ↦ rw (m.0, m.1) comes-last
+        ];
+      },
+      at_before,
+    )
+
+  -- no turn yet
+  pub trail-first : (a : Kept D) (last : ℕ) (l w : Frames) → Carries honest moment left a a [] [] l l w w → Trail a a last [] l l w w
+  trail-first a last l w k = record {
+    carries = k;
+    stops = record {
+      by = λ (turns : List Turn). a;
+      first = refl;
+      last = refl;
+      each = λ before u after e. absurd (omega (arith, ap length e, length-append before (u ∷ after)));
+    };
+  }
+
+  -- one more
+  pub trail-then : (earlier : (disk : D) (s t : ℕ) (files : Files) → s ≤ t → left disk t files → left disk s files)
+      → (a b c : Kept D) (last : ℕ) (turns : List Turn) (turn : Turn) (l l' l'' w w' w'' : Frames) → a.fallen ≡ false → b.fallen ≡ false → a.told.held ≡ []
+      → Trail a b last turns l l' w w' → Carries honest moment left b c (events_of (last_of last turns) turn) (headers_of (last_of last turns) turn) l' l'' w' w'' → Trail a c last (turns ++ turn ∷ []) l l'' w w''
+  trail-then earlier a b c last turns turn l l' l'' w w' w'' stood stands none t j =
+      let m = last_of last turns in
+      record {
+        carries = rw (events-then last turns turn, headers-then last turns turn)
+            (carries-then honest moment left earlier a b c stood stands none (all_events last turns) (events_of m turn) (all_headers last turns) (headers_of m turn) l l' l'' w w' w'' (all_long last turns) t.carries j);
+        stops = (stops-then a b c last turns turn l l' l'' w w' w'' _ _ t stands (frames j.answered) j.fares j.to_lan j.to_wan).0;
+      }

@@ -48,7 +48,7 @@ GaveAll-then coming waited has_none start old now done many x y is gave same bef
     (q.0, q.1, Gives-then (coming start) (coming old) (coming q.0) x y gave gives, subst (λ (k : ℕ). Waits k (waited start) (waited q.0)) often all)
 
 -- a turn of some turns and one more is one of these turns, or the last
-place_of : (xs before after : List Turn) (t u : Turn) → xs ++ t ∷ [] ≡ before ++ u ∷ after → ((rest : List Turn) × (xs ≡ before ++ u ∷ rest)) ⊎ ((before ≡ xs) × (u ≡ t))
+pub place_of : (xs before after : List Turn) (t u : Turn) → xs ++ t ∷ [] ≡ before ++ u ∷ after → ((rest : List Turn) × (xs ≡ before ++ u ∷ rest)) ⊎ ((before ≡ xs) × (u ≡ t))
 place_of [] [] after t u e =
     let head : t ≡ u = cc in
     inr (refl, sym head)

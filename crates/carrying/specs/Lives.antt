@@ -1,5 +1,5 @@
 -- A run of turns in the life of a gateway, as `gateway/specs/Lives` and `Living` define it.
-use Rattle.std.specs.Prelude.{◌≡◌, ℕ, List, ◌++◌, Result}
+use Rattle.std.specs.Prelude.{◌≡◌, ℕ, List, [], ◌∷◌, ◌++◌, Result}
 use Rattle.disk_model.specs.Disk.{Files}
 use Rattle.packet.specs.Config.{Config}
 use Rattle.devices.specs.Handing.{Frames}
@@ -18,9 +18,10 @@ use Rattle.carrying.specs.Turns.{Turn}
 
 module _ {D : Type 0} (honest : D → Type 0) (moment : D → ℕ) (left : D → ℕ → Files → Type 0)
     (seen : D → Files) where
-  -- The gateway's life had come to `events` and `given`, and the run took it from `old` by `now` to `new`: by then it
-  -- had taken just the events so far, and all these answers count as given out.
-  pub record CarryStops (config : Config) (entry : D) (opened_at : ℕ) (begun old now new : Kept D)
+  -- The gateway's life had come to `events` and `given`, and the run took it from `old` by `now` to `later`. When it
+  -- was at `now`, it had taken just the events so far, and all these answers count as given out. When it was at
+  -- `later`, the first of those were taken that had come by then.
+  pub record CarryStops (config : Config) (entry : D) (opened_at : ℕ) (begun old now later : Kept D)
       (events : List Event) (given : List (ℕ × Answer)) (so_far came : List Event)
       (answered : List (ℕ × Answer)) : Type 0 where
     -- A stop just then is the end of a life, which knows of no event that came later.
@@ -29,26 +30,29 @@ module _ {D : Type 0} (honest : D → Type 0) (moment : D → ℕ) (left : D →
     -- Up to then it was as a run of the edge over just these events.
     pub by_then : EdgeRuns honest moment left seen config entry opened_at begun old now events given
         so_far (frames answered)
-    -- A stop since then, within the run, is the end of a life too, which takes just these, the first of its events.
     pub front : List Event
     pub back : List Event
     pub split : came ≡ front ++ back
     pub judged : List Judged
     pub are_judged : AreJudged old.told.config front judged
-    pub reached : Reached old.told new.told judged
+    -- just these bring the gateway to the later one
+    pub reached : Reached old.told later.told judged
+    -- A stop since then, and before it was at the later one, is the end of a life, which knows of no event that came
+    -- later either.
     pub since : IsLived honest moment left seen config entry opened_at begun (events ++ front)
-        (given ++ answered) now.disk new.disk
+        (given ++ answered) now.disk later.disk
 
-  -- A stop in the midst of a run, over a gateway that rests in its life. Each answer counts as given out by which the
-  -- devices were handed a packet in the turns that the run had come by.
+  -- A stop in the midst of a run, over a gateway that rests in its life, with what the run promises of each of its
+  -- turns (`AtEachTurn`): since a turn began, and before the next one did. Each answer counts as given out by which the
+  -- devices were handed a packet in the turns before.
   abbrev pub CarryStopsAreLives : Type 0
-  CarryStopsAreLives = (config : Config) (entry : D) (opened_at : ℕ) (begun old new : Kept D)
+  CarryStopsAreLives = (config : Config) (entry : D) (opened_at : ℕ) (begun old now later : Kept D)
       (events : List Event) (given : List (ℕ × Answer)) (last : ℕ) (before : List Turn)
-      (came : List Event) (lan lan' wan wan' : Frames)
+      (turn : Turn) (lan lan' wan wan' : Frames)
       → RestsInLife honest moment left seen config entry opened_at begun events given old
-      → (by : ComesBy honest moment left old new last before came lan lan' wan wan')
-      → CarryStops config entry opened_at begun old by.now new events given
-      (all_events last before) came by.answered
+      → (by : ComesBy honest moment left old now later last before turn lan lan' wan wan')
+      → CarryStops config entry opened_at begun old now later events given
+      (all_events last before) (all_events last (before ++ turn ∷ [])) by.answered
 
   -- A whole run, over a gateway that rests in its life, is as one of the edge over the events of its turns: a stop in
   -- it or after it is the end of the life, and unless the gateway has fallen it rests again. Of the answers given out

@@ -63,46 +63,55 @@ HandsFirst old new first = (now : Frames) × Hands old now first
     × ((more : List (List ℕ)) × Hands now new more)
 
 module _ {D : Type 0} (honest : D → Type 0) (moment : D → ℕ) (left : D → ℕ → Files → Type 0)
-    (old new : Kept D) where
-  -- A crash since the gateway was `now`, within the run, leaves what the model has after a beginning of the events that
-  -- were taken, which holds each event of these answers. They are the first of the model's.
-  pub record Keeps (now : Kept D) (events : List Event)
-      (answered : List (ℕ × Answer)) : Type 0 where
+    (old now later : Kept D) where
+  -- A crash since the gateway was `now`, and before it was `later`, leaves what the model has after a beginning of the
+  -- events that were taken by then, which holds each event of these answers. They are the first of the model's.
+  pub record Keeps (events : List Event) (answered : List (ℕ × Answer)) : Type 0 where
     pub front : List Event
     pub back : List Event
     pub split : events ≡ front ++ back
     pub judged : List Judged
     pub are_judged : AreJudged old.told.config front judged
-    pub reached : Reached old.told new.told judged
+    pub reached : Reached old.told later.told judged
     pub first : (more : List (ℕ × Answer)) × (answered ++ more ≡ replies old.told judged)
-    pub since : LeavesOnly moment left now.disk new.disk
+    pub since : LeavesOnly moment left now.disk later.disk
         (IsSafe old.told.config old.told.state front (length answered))
-    pub configured : LeavesOnly moment left now.disk new.disk (IsConfigured old.told.config)
+    pub configured : LeavesOnly moment left now.disk later.disk (IsConfigured old.told.config)
 
-  -- The run came by a gateway `now` that had taken the events of these turns, the first of the run, and held nothing.
-  -- Up to it the files fare as in a run that ends there. What its answers say is the first of what the devices were
-  -- handed. Of an honest disk, where nothing was held at the entry, no crash since then loses one of these events.
-  pub record ComesBy (last : ℕ) (before : List Turn) (events : List Event)
+  -- The run came by `now`, which had taken the events of these turns, the first of the run, and held nothing. Up to it
+  -- the files fare as in a run that ends there. What its answers say is the first of what the devices were handed. Then
+  -- it came by `later`, with one turn more. Of an honest disk, if nothing was held at the entry, no crash between the
+  -- two loses an event of the turns before.
+  pub record ComesBy (last : ℕ) (before : List Turn) (turn : Turn)
       (lan lan' wan wan' : Frames) : Type 0 where
-    pub now : Kept D
     pub answered : List (ℕ × Answer)
     pub took : TookAll old.told now.told (all_events last before) answered
     pub none : now.told.held ≡ []
     pub until : Fares honest moment left old now (all_events last before) (frames answered)
     pub to_lan : HandsFirst lan lan' (handed_to Lan (all_headers last before) answered)
     pub to_wan : HandsFirst wan wan' (handed_to Wan (all_headers last before) answered)
-    pub since : IsAtRest honest old → Keeps now events answered
+    pub since : IsAtRest honest old → Keeps (all_events last (before ++ turn ∷ [])) answered
 
-  -- behind each beginning of these turns
-  abbrev pub AtEachTurn : ℕ → List Turn → List Event → Frames → Frames → Frames → Frames → Type 0
-  AtEachTurn last turns events lan lan' wan wan' = (before after : List Turn)
-      → turns ≡ before ++ after → ComesBy last before events lan lan' wan wan'
+module _ {D : Type 0} (honest : D → Type 0) (moment : D → ℕ) (left : D → ℕ → Files → Type 0)
+    (old new : Kept D) where
+  -- By which gateways a run came from turn to turn. Only the last of these turns may have failed.
+  pub record AtEachTurn (latest : ℕ) (turns : List Turn) (lan lan' wan wan' : Frames) : Type 0 where
+    -- the gateway when these of the turns had gone, and the next one began, or the run ended
+    pub by : List Turn → Kept D
+    pub first : by [] ≡ old
+    pub last : by turns ≡ new
+    -- As a turn begins, just the events of the turns before are taken. A crash from then on, up to the next turn or the
+    -- end, loses none of these, and leaves nothing of an event of a later turn.
+    pub each : (before : List Turn) (turn : Turn) (after : List Turn)
+        → turns ≡ before ++ turn ∷ after
+        → ComesBy honest moment left old (by before) (by (before ++ turn ∷ [])) latest before turn
+        lan lan' wan wan'
 
   -- These turns, and then the one that failed, if any, were asked for, in this order. The devices gave what came in
   -- them, one behind the other. They were handed what the answers to the events of the turns that didn't fail say, and
   -- nothing else. The answers are numbered on, and their frames are the first of what the files fare by: whatever a
   -- crash leaves at the exit holds each event whose packet was handed on. A crash in the midst leaves what holds the
-  -- events of each turn that the run had come by.
+  -- events of each turn before, and of no later one.
   pub record Ran (ended : Result (Unit {0}) EdgeFault) (last : ℕ) (asks asks' : Asks)
       (lan lan' wan wan' : Frames) (lan_handed lan_handed' wan_handed wan_handed' : Frames) : Type 0 where
     pub turns : List Turn
@@ -122,5 +131,5 @@ module _ {D : Type 0} (honest : D → Type 0) (moment : D → ℕ) (left : D →
     pub more : List ℕ
     pub fares : Fares honest moment left old new (all_events last (turns ++ failed))
         (frames answered ++ more)
-    pub stops : AtEachTurn last turns (all_events last (turns ++ failed)) lan_handed lan_handed'
-        wan_handed wan_handed'
+    pub stops : AtEachTurn last (turns ++ failed) lan_handed lan_handed' wan_handed wan_handed'
+    pub settles : stops.by turns ≡ settled

@@ -19,7 +19,6 @@ use disk_model::Disk;
 use from_devices::FromDevices;
 use gateway::Gateway;
 use gateway::running::stands;
-use machine::laws::events_are_judged_once;
 use packet::Iface;
 use socket_edge::EdgeFault;
 use std::alloc::{AllocError, Global};
@@ -272,7 +271,6 @@ impl Carrier {
             self.old.counts self.new.counts }
     {
         stands(gateway);
-        events_are_judged_once();
         for _turn in 0..u64::MAX {
             let Some(beat) = pace.next(devices, &self.counts, self.drops.noted()) else {
                 return Ok(());

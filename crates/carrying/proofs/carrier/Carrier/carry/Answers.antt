@@ -1,4 +1,4 @@
-use Rattle.std.proofs.Common.{◌≡◌, ℕ, ◌+◌, [], ◌∷◌, length, refl, sym, ap, subst, ◌∙◌, arith, inl, inr}
+use Rattle.std.proofs.Common.{◌≡◌, ℕ, [], ◌∷◌, length, refl, sym, ap, subst, ◌∙◌, arith, inl, inr}
 use Rattle.devices.specs.Handing.{GaveAll}
 use Rattle.machine.specs.Machine.{later}
 use Rattle.carrying.specs.Asking.{AsksFor}
@@ -14,7 +14,7 @@ use Rattle.carrying.proofs.carrier.Carrier.carry.Goals as goal
 pub loop-turn-init : goal.loop-turn-init
 loop-turn-init g c =
     let d = c.args.devices.now in (
-      going-first g.D.Disk.honest g.D.Disk.moment g.D.Disk.left (GaveAll g.L.Device.coming g.L.Device.waited g.L.Device.has_none d.lan) (GaveAll g.W.Device.coming g.W.Device.waited g.W.Device.has_none d.wan) g.met.D.Disk.earlier c.events_are_judged_once.ensures c.args.gateway.now c.args.self.now.told (g.P.Pace.asks c.args.pace.now)
+      going-first g.D.Disk.honest g.D.Disk.moment g.D.Disk.left (GaveAll g.L.Device.coming g.L.Device.waited g.L.Device.has_none d.lan) (GaveAll g.W.Device.coming g.W.Device.waited g.W.Device.has_none d.wan) c.args.gateway.now c.args.self.now.told (g.P.Pace.asks c.args.pace.now)
           (g.L.Device.coming d.lan) (g.W.Device.coming d.wan) (g.L.Device.handed d.lan) (g.W.Device.handed d.wan) c.args.self.now.counts c.requires.stands c.requires.none
           (idle-fares g.D.Disk.honest g.D.Disk.moment g.D.Disk.left g.D.Disk.seen g.D.Disk.failed g.met.D.Disk.reads g.met.D.Disk.earlier c.args.gateway.now c.stands.ensures []),
       Waits-same (g.L.Device.waited d.lan) (g.L.Device.waited d.lan) refl,
@@ -72,7 +72,7 @@ loop-turn-preserved g c =
     let carries : Carries g.D.Disk.honest g.D.Disk.moment g.D.Disk.left c.loop-turn.gateway c.turn_at.new.gateway (events_of c.loop-turn.self.told t.0) (headers_of c.loop-turn.self.told t.0)
     (g.L.Device.handed e.lan) (g.L.Device.handed f.lan) (g.W.Device.handed e.wan) (g.W.Device.handed f.wan) = rw (← n.to_lan, ← n.to_wan) t.4 in
     let at : c.turn_at.new.self.told ≡ later c.loop-turn.self.told t.0.moment = c.turn_at.ensures.latest ∙ ap (λ (m : ℕ). later c.loop-turn.self.told m) (sym t.1) in (
-      going-next g.D.Disk.honest g.D.Disk.moment g.D.Disk.left (GaveAll g.L.Device.coming g.L.Device.waited g.L.Device.has_none d.lan) (GaveAll g.W.Device.coming g.W.Device.waited g.W.Device.has_none d.wan) g.met.D.Disk.earlier c.args.gateway.now c.loop-turn.gateway c.turn_at.new.gateway c.requires.stands c.requires.none c.events_are_judged_once.ensures c.args.self.now.told c.loop-turn.self.told c.turn_at.new.self.told c.loop-turn._turn t.0
+      going-next g.D.Disk.honest g.D.Disk.moment g.D.Disk.left (GaveAll g.L.Device.coming g.L.Device.waited g.L.Device.has_none d.lan) (GaveAll g.W.Device.coming g.W.Device.waited g.W.Device.has_none d.wan) g.met.D.Disk.earlier c.args.gateway.now c.loop-turn.gateway c.turn_at.new.gateway c.requires.stands c.requires.none c.args.self.now.told c.loop-turn.self.told c.turn_at.new.self.told c.loop-turn._turn t.0
           (g.P.Pace.asks c.args.pace.now) (g.P.Pace.asks c.loop-turn.pace) (g.P.Pace.asks c.next.new.self)
           (g.L.Device.coming d.lan) (g.L.Device.coming e.lan) (g.L.Device.coming f.lan) (g.W.Device.coming d.wan) (g.W.Device.coming e.wan) (g.W.Device.coming f.wan)
           (g.L.Device.handed d.lan) (g.L.Device.handed e.lan) (g.L.Device.handed f.lan) (g.W.Device.handed d.wan) (g.W.Device.handed e.wan) (g.W.Device.handed f.wan)
