@@ -39,7 +39,7 @@ end = json.load(open(sys.argv[1]))["end"]["sum"]
 print(round((end["packets"] - end["lost_packets"]) / end["seconds"]))' "$work/iperf.json"
 }
 
-# The time of one datagram there and back: the median and the 99th of a hundred, in microseconds, of 5,000.
+# The time of one datagram there and back: the median and the 99th of a hundred, in microseconds, of 30,000.
 delays() {
   on one python3 -c '
 import socket, sys, time
@@ -47,7 +47,7 @@ end = socket.socket(socket.AF_INET, socket.SOCK_DGRAM)
 end.settimeout(1)
 end.connect((sys.argv[1], 53))
 took = []
-for _ in range(5000):
+for _ in range(30_000):
     start = time.perf_counter()
     end.send(b"x" * 64)
     end.recv(100)
