@@ -109,6 +109,7 @@ fn answer<D: Disk + Drop>(
     ensures why { gateway.old.fallen ≡ false
         → IfErr result (λ e. Explains D.honest D.moment D.left D.failed e gateway.old gateway.new) }
     ensures stands { OnOk result (gateway.new.fallen ≡ false) }
+    ensures no_failure { OnOk result (D.failed gateway.new.disk ≡ D.failed gateway.old.disk) }
     ensures short { length to.new ≤ 1048576 }
 {
     let mut rest = requests;
@@ -189,6 +190,7 @@ impl Carrier {
         ensures wan_waited { W.waited devices.new.wan ≡ W.waited devices.old.wan }
         ensures rests { OnOk result (gateway.new.told.held ≡ []) }
         ensures stands { OnOk result (gateway.new.fallen ≡ false) }
+        ensures no_failure { OnOk result (D.failed gateway.new.disk ≡ D.failed gateway.old.disk) }
         ensures why { IfErr result (λ e. Explains D.honest D.moment D.left D.failed e gateway.old
             gateway.new) }
     {
@@ -231,6 +233,7 @@ impl Carrier {
         ensures lan_waited { L.waited devices.new.lan ≡ L.waited devices.old.lan }
         ensures wan_waited { W.waited devices.new.wan ≡ W.waited devices.old.wan }
         ensures stands { OnOk result (gateway.new.fallen ≡ false) }
+        ensures no_failure { OnOk result (D.failed gateway.new.disk ≡ D.failed gateway.old.disk) }
         ensures why { IfErr result (λ e. Explains D.honest D.moment D.left D.failed e gateway.old
             gateway.new) }
     {
@@ -269,6 +272,8 @@ impl Carrier {
             (GaveAll W.coming W.waited W.has_none devices.old.wan) (run.turns ++ run.failed)
             × CountsTurns self.old.told run.turns gateway.old.told run.settled.told
             self.old.counts self.new.counts }
+        ensures stands { OnOk result (gateway.new.fallen ≡ false) }
+        ensures no_failure { OnOk result (D.failed gateway.new.disk ≡ D.failed gateway.old.disk) }
     {
         stands(gateway);
         for _turn in 0..u64::MAX {

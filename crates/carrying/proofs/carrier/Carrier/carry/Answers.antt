@@ -17,6 +17,8 @@ loop-turn-init g c =
       going-first g.D.Disk.honest g.D.Disk.moment g.D.Disk.left (GaveAll g.L.Device.coming g.L.Device.waited g.L.Device.has_none d.lan) (GaveAll g.W.Device.coming g.W.Device.waited g.W.Device.has_none d.wan) c.args.gateway.now c.args.self.now.told (g.P.Pace.asks c.args.pace.now)
           (g.L.Device.coming d.lan) (g.W.Device.coming d.wan) (g.L.Device.handed d.lan) (g.W.Device.handed d.wan) c.args.self.now.counts c.requires.stands c.requires.none
           (idle-fares g.D.Disk.honest g.D.Disk.moment g.D.Disk.left g.D.Disk.seen g.D.Disk.failed g.met.D.Disk.reads g.met.D.Disk.earlier c.args.gateway.now c.stands.ensures []),
+      c.requires.stands,
+      refl,
       Waits-same (g.L.Device.waited d.lan) (g.L.Device.waited d.lan) refl,
       Waits-same (g.W.Device.waited d.wan) (g.W.Device.waited d.wan) refl,
     )
@@ -31,7 +33,7 @@ returns-in_default g c =
     (g.P.Pace.asks c.args.pace.now) (g.P.Pace.asks c.loop-turn.pace)
     (g.L.Device.coming d.lan) (g.L.Device.coming e.lan) (g.W.Device.coming d.wan) (g.W.Device.coming e.wan)
     (g.L.Device.handed d.lan) (g.L.Device.handed e.lan) (g.W.Device.handed d.wan) (g.W.Device.handed e.wan) c.args.self.now.counts c.loop-turn.self.counts c.loop-turn.invariant.0 (inl over.0) in
-    rw (c.next.ensures.from_lan, c.next.ensures.from_wan, c.next.ensures.to_lan, c.next.ensures.to_wan, over.1) (record { ran = (run.0, tt, run.1, run.2) })
+    rw (c.next.ensures.from_lan, c.next.ensures.from_wan, c.next.ensures.to_lan, c.next.ensures.to_wan, over.1) (record { ran = (run.0, tt, run.1, run.2); stands = c.loop-turn.invariant.1; no_failure = c.loop-turn.invariant.2 })
 
 pub returns-in-Err : goal.returns-in-Err
 returns-in-Err g c =
@@ -52,11 +54,11 @@ returns-in-Err g c =
     (g.L.Device.coming d.lan) (g.L.Device.coming e.lan) (g.L.Device.coming f.lan) (g.W.Device.coming d.wan) (g.W.Device.coming e.wan) (g.W.Device.coming f.wan)
     (g.L.Device.handed d.lan) (g.L.Device.handed e.lan) (g.L.Device.handed f.lan) (g.W.Device.handed d.wan) (g.W.Device.handed e.wan) (g.W.Device.handed f.wan)
     (GaveAll g.L.Device.coming g.L.Device.waited g.L.Device.has_none b.lan 0 t.0.lan) (GaveAll g.W.Device.coming g.W.Device.waited g.W.Device.has_none b.wan 0 t.0.wan) c.args.self.now.counts c.loop-turn.self.counts c.turn_at.new.self.counts
-    (λ turns count gave all. GaveAll-then g.L.Device.coming g.L.Device.waited g.L.Device.has_none d.lan e.lan b.lan c.loop-turn._turn (length turns) (from_lan turns) t.0.lan count gave n.from_lan c.loop-turn.invariant.1 n.lan_waits all)
-    (λ turns count gave all. GaveAll-then g.W.Device.coming g.W.Device.waited g.W.Device.has_none d.wan e.wan b.wan c.loop-turn._turn (length turns) (from_wan turns) t.0.wan count gave n.from_wan c.loop-turn.invariant.2 n.wan_waits all)
+    (λ turns count gave all. GaveAll-then g.L.Device.coming g.L.Device.waited g.L.Device.has_none d.lan e.lan b.lan c.loop-turn._turn (length turns) (from_lan turns) t.0.lan count gave n.from_lan c.loop-turn.invariant.3 n.lan_waits all)
+    (λ turns count gave all. GaveAll-then g.W.Device.coming g.W.Device.waited g.W.Device.has_none d.wan e.wan b.wan c.loop-turn._turn (length turns) (from_wan turns) t.0.wan count gave n.from_wan c.loop-turn.invariant.4 n.wan_waits all)
     c.loop-turn.invariant.0 asked gave takes fails t.6 in
     let why = subst (λ k. Explains g.D.Disk.honest g.D.Disk.moment g.D.Disk.left g.D.Disk.failed c.in-Err.fault k c.turn_at.new.gateway) (sym run.1) c.in-Err.ensures.why in
-    record { ran = (run.0, why, run.2, run.3) }
+    record { ran = (run.0, why, run.2, run.3); stands = tt; no_failure = tt }
 
 pub loop-turn-preserved : goal.loop-turn-preserved
 loop-turn-preserved g c =
@@ -77,11 +79,13 @@ loop-turn-preserved g c =
           (g.L.Device.coming d.lan) (g.L.Device.coming e.lan) (g.L.Device.coming f.lan) (g.W.Device.coming d.wan) (g.W.Device.coming e.wan) (g.W.Device.coming f.wan)
           (g.L.Device.handed d.lan) (g.L.Device.handed e.lan) (g.L.Device.handed f.lan) (g.W.Device.handed d.wan) (g.W.Device.handed e.wan) (g.W.Device.handed f.wan)
           (GaveAll g.L.Device.coming g.L.Device.waited g.L.Device.has_none b.lan 0 t.0.lan) (GaveAll g.W.Device.coming g.W.Device.waited g.W.Device.has_none b.wan 0 t.0.wan) c.args.self.now.counts c.loop-turn.self.counts c.turn_at.new.self.counts
-          (λ turns count gave all. GaveAll-then g.L.Device.coming g.L.Device.waited g.L.Device.has_none d.lan e.lan b.lan c.loop-turn._turn (length turns) (from_lan turns) t.0.lan count gave n.from_lan c.loop-turn.invariant.1 n.lan_waits all)
-          (λ turns count gave all. GaveAll-then g.W.Device.coming g.W.Device.waited g.W.Device.has_none d.wan e.wan b.wan c.loop-turn._turn (length turns) (from_wan turns) t.0.wan count gave n.from_wan c.loop-turn.invariant.2 n.wan_waits all)
+          (λ turns count gave all. GaveAll-then g.L.Device.coming g.L.Device.waited g.L.Device.has_none d.lan e.lan b.lan c.loop-turn._turn (length turns) (from_lan turns) t.0.lan count gave n.from_lan c.loop-turn.invariant.3 n.lan_waits all)
+          (λ turns count gave all. GaveAll-then g.W.Device.coming g.W.Device.waited g.W.Device.has_none d.wan e.wan b.wan c.loop-turn._turn (length turns) (from_wan turns) t.0.wan count gave n.from_wan c.loop-turn.invariant.4 n.wan_waits all)
           c.loop-turn.invariant.0 asked gave takes at c.in-Ok.ensures.stands carries t.6,
-      Waits-on c.loop-turn._turn (g.L.Device.waited d.lan) (g.L.Device.waited e.lan) (g.L.Device.waited b.lan) (g.L.Device.waited f.lan) c.loop-turn.invariant.1 n.lan_waits c.turn_at.ensures.lan_waited,
-      Waits-on c.loop-turn._turn (g.W.Device.waited d.wan) (g.W.Device.waited e.wan) (g.W.Device.waited b.wan) (g.W.Device.waited f.wan) c.loop-turn.invariant.2 n.wan_waits c.turn_at.ensures.wan_waited,
+      c.in-Ok.ensures.stands,
+      c.in-Ok.ensures.no_failure ∙ c.loop-turn.invariant.2,
+      Waits-on c.loop-turn._turn (g.L.Device.waited d.lan) (g.L.Device.waited e.lan) (g.L.Device.waited b.lan) (g.L.Device.waited f.lan) c.loop-turn.invariant.3 n.lan_waits c.turn_at.ensures.lan_waited,
+      Waits-on c.loop-turn._turn (g.W.Device.waited d.wan) (g.W.Device.waited e.wan) (g.W.Device.waited b.wan) (g.W.Device.waited f.wan) c.loop-turn.invariant.4 n.wan_waits c.turn_at.ensures.wan_waited,
     )
 
 pub returns : goal.returns
@@ -93,4 +97,4 @@ returns g c =
     (g.P.Pace.asks c.args.pace.now) (g.P.Pace.asks c.loop-turn.pace)
     (g.L.Device.coming d.lan) (g.L.Device.coming e.lan) (g.W.Device.coming d.wan) (g.W.Device.coming e.wan)
     (g.L.Device.handed d.lan) (g.L.Device.handed e.lan) (g.W.Device.handed d.wan) (g.W.Device.handed e.wan) c.args.self.now.counts c.loop-turn.self.counts c.loop-turn.invariant.0 (inr (omega (arith, c.loop-turn-test.false, c.loop-turn.auto._turn-end))) in
-    record { ran = (run.0, tt, run.1, run.2) }
+    record { ran = (run.0, tt, run.1, run.2); stands = c.loop-turn.invariant.1; no_failure = c.loop-turn.invariant.2 }
