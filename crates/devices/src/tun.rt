@@ -5,6 +5,9 @@ use crate::device::{Device, HEADER, LONGEST_FRAME};
 use libc::net::{POLLERR, POLLHUP, POLLIN, POLLNVAL};
 use libc::types::pollfd;
 
+/// How often the devices are looked at before natgw sleeps. It takes some 20 microseconds.
+const LOOKS: usize = 64;
+
 /// What a device is ready for.
 #[derive(Clone, Copy, Debug, PartialEq, Eq, Drop)]
 pub enum Readiness {
@@ -103,13 +106,24 @@ fn told(told: pollfd) -> Readiness {
     }
 }
 
+// Whether something comes within so many milliseconds. What comes soon is found without sleeping, since being woken
+// takes longer than these looks.
+fn comes(both: &mut [pollfd; 2], most: u16) -> bool {
+    for _look in 0..LOOKS {
+        if libc::net::poll(both, 0) > 0 {
+            return true;
+        }
+    }
+    libc::net::poll(both, i32::from(most)) > 0
+}
+
 /// Waits until one of the devices has a packet or is gone, or a signal came, but no longer than so many milliseconds.
 /// Then `ready` says what each is ready for.
 pub fn wait(lan: &mut Tun, wan: &mut Tun, most: u16) {
     let mut both = [asked(lan), asked(wan)];
     lan.ready = Readiness::Idle;
     wan.ready = Readiness::Idle;
-    if libc::net::poll(&mut both, i32::from(most)) <= 0 {
+    if !comes(&mut both, most) {
         return;
     }
     lan.ready = told(both[0]);
