@@ -1,8 +1,7 @@
 -- What the calls of a disk do to its two files, and what a crash may do between two syncs.
-use Rattle.std.specs.Prelude.{◌<◌, ◌≡◌, ◌≢◌, ◌⊎◌, ℕ, ◌+◌, ◌-◌, ◌≤◌, ◌^◌, min, List, [], ◌∷◌, ◌++◌, length, take, drop, get_or, Result, IsErr, IsOk}
+use Rattle.std.specs.Prelude.{◌<◌, ◌≡◌, ◌≢◌, ◌⊎◌, ℕ, ◌+◌, ◌-◌, ◌≤◌, ◌^◌, min, List, [], ◌∷◌, ◌++◌, length, take, drop, get_or}
 use Rattle.disk_model.specs.declared.disk.FileId.{FileId}
 use Rattle.disk_model.specs.declared.disk.FileId.TheVariants.{A, B}
-use Rattle.disk_model.specs.declared.disk.DiskFault.{DiskFault}
 
 -- the bytes of each file
 abbrev pub Files : Type 0
@@ -55,12 +54,12 @@ Called calls before now = now ≡ min (before + calls) (2 ^ 64 - 1)
 abbrev pub Grew : ℕ → ℕ → Type 0
 Grew before now = (before < now) ⊎ (2 ^ 64 ≤ now + 1)
 
--- A failed call, and nothing else, makes the count of failures grow, by one.
-pub record HasCause {T : Type 0} (before now : ℕ) (result : Result T DiskFault) : Type 0 where
+-- If a call of the disk has failed, the count of failures grows, by one; if none has, it stays.
+pub record HasCause (before now : ℕ) (HasFailed : Type 0) : Type 0 where
   pub later : before ≤ now
   pub by_one : now ≤ before + 1
-  pub failed : IsErr result → Grew before now
-  pub passed : IsOk result → now ≡ before
+  pub failed : HasFailed → Grew before now
+  pub others : ¬ HasFailed → now ≡ before
 
 module _ {D : Type 0} (moment : D → ℕ) (left : D → ℕ → Files → Type 0) where
   -- what a crash may leave now

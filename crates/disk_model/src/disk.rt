@@ -1,5 +1,5 @@
 //! The disk model: the trait `Disk`, whose clauses say what each call does and what a crash may leave.
-ghost use Rattle.std.specs.Prelude.{◌≡◌, ◌+◌, ◌≤◌, List, ℕ, length, IfOk, OnOk, take, drop};
+ghost use Rattle.std.specs.Prelude.{◌≡◌, ◌+◌, ◌≤◌, List, ℕ, length, IfOk, OnOk, IsErr, take, drop};
 ghost use Rattle.disk_model.specs.declared.disk.FileId.{FileId};
 ghost use Rattle.disk_model.specs.Disk.{Files, Goes, TornIn, Synced, Same, Put, Called, HasCause, LeftNow};
 
@@ -58,7 +58,7 @@ pub trait Disk {
         ensures seen { honest self.old → Same (seen self.old) (seen self.new) }
         ensures crash { honest self.old → Goes moment left self.old self.new Same }
         ensures called { honest self.old → Called 1 (called self.old) (called self.new) }
-        ensures cause { HasCause (failed self.old) (failed self.new) result };
+        ensures cause { HasCause (failed self.old) (failed self.new) (IsErr result) };
 
     /// Fills `bytes` from a place of a file. The range lies within the file.
     ///
@@ -74,7 +74,7 @@ pub trait Disk {
         ensures seen { honest self.old → Same (seen self.old) (seen self.new) }
         ensures crash { honest self.old → Goes moment left self.old self.new Same }
         ensures called { honest self.old → Called 1 (called self.old) (called self.new) }
-        ensures cause { HasCause (failed self.old) (failed self.new) result };
+        ensures cause { HasCause (failed self.old) (failed self.new) (IsErr result) };
 
     /// Puts bytes at a place of a file, which may make it longer; the place is at most the file's length. Until a
     /// sync a crash may leave any bytes in the range and past the end; but a write of the single byte 00 never makes a
@@ -94,7 +94,7 @@ pub trait Disk {
         ensures crash { honest self.old
             → Goes moment left self.old self.new (TornIn file at bytes.now) }
         ensures called { honest self.old → Called 1 (called self.old) (called self.new) }
-        ensures cause { HasCause (failed self.old) (failed self.new) result };
+        ensures cause { HasCause (failed self.old) (failed self.new) (IsErr result) };
 
     /// Makes a file durable: from then on until the next write to it a crash leaves of it what a read gives, its
     /// length too.
@@ -111,7 +111,7 @@ pub trait Disk {
         ensures outcome { honest self.old → LeftNow moment left self.old (seen self.new) }
         ensures crash { honest self.old → Goes moment left self.old self.new Same }
         ensures called { honest self.old → Called 1 (called self.old) (called self.new) }
-        ensures cause { HasCause (failed self.old) (failed self.new) result };
+        ensures cause { HasCause (failed self.old) (failed self.new) (IsErr result) };
 
     /// What a read gives is one of the outcomes of a crash.
     ghost reads: { (disk : Self) → honest disk → left disk (moment disk) (seen disk) };

@@ -1,6 +1,6 @@
 //! All bytes of a file.
-ghost use Rattle.std.specs.Prelude.{◌≡◌, ◌+◌, ◌≤◌, IfOk, OnOk, IsErrOf};
-ghost use Rattle.disk_model.specs.Disk.{Looks, Grew};
+ghost use Rattle.std.specs.Prelude.{◌≡◌, IfOk, IsErrOf};
+ghost use Rattle.disk_model.specs.Disk.{Looks, HasCause};
 ghost use Rattle.disk_model.specs.declared.reading.ReadFault.TheVariants.{Device, NoMemory};
 
 use crate::{Disk, DiskFault, FileId};
@@ -44,13 +44,8 @@ pub fn contents<D: Disk>(alloc: Global, disk: &mut D, file: FileId) -> Result<Ve
     ensures stays_honest { ¬ IsErrOf result ReadFault.Device → D.honest disk.old → D.honest disk.new }
     ensures ok { D.honest disk.old → IfOk result (λ bytes. bytes.items ≡ D.seen disk.old file) }
     ensures looks { D.honest disk.old → Looks D.moment D.left D.seen disk.old disk.new }
-    ensures failures { D.failed disk.old ≤ D.failed disk.new }
-    ensures by_one { D.failed disk.new ≤ D.failed disk.old + 1 }
-    ensures no_failure { OnOk result (D.failed disk.new ≡ D.failed disk.old) }
-    ensures only_device { ¬ IsErrOf result ReadFault.Device
-        → D.failed disk.new ≡ D.failed disk.old }
-    ensures device { IsErrOf result ReadFault.Device
-        → Grew (D.failed disk.old) (D.failed disk.new) }
+    ensures cause { HasCause (D.failed disk.old) (D.failed disk.new)
+        (IsErrOf result ReadFault.Device) }
 {
     let len = disk.len(file)?;
     let mut bytes = vec![in alloc; 0; len as usize]?;

@@ -1,5 +1,5 @@
 //! A write that is synced.
-ghost use Rattle.std.specs.Prelude.{◌+◌, ◌≤◌, length, OnOk};
+ghost use Rattle.std.specs.Prelude.{◌+◌, ◌≤◌, length, OnOk, IsErr};
 ghost use Rattle.disk_model.specs.Disk.{FromLeft, Leaves, TornIn, Synced, Put, Called, HasCause};
 
 use crate::{Disk, DiskFault, FileId};
@@ -31,7 +31,7 @@ pub fn write_synced<D: Disk>(
     ensures called { D.honest disk.old
         → OnOk result (Called 2 (D.called disk.old) (D.called disk.new)) }
     ensures calls { D.honest disk.old → D.called disk.new ≤ D.called disk.old + 2 }
-    ensures cause { HasCause (D.failed disk.old) (D.failed disk.new) result }
+    ensures cause { HasCause (D.failed disk.old) (D.failed disk.new) (IsErr result) }
 {
     disk.write_at(file, at, bytes)?;
     disk.sync(file)
