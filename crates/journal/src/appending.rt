@@ -1,6 +1,6 @@
 //! Putting a group behind the others of a file.
 ghost use Rattle.std.specs.Prelude.{◌≡◌, ◌+◌, ◌<◌, ◌≤◌, ◌↔◌, ◌∷◌, length, IfOk, OnOk, IsErrOf};
-ghost use Rattle.disk_model.specs.Disk.{FromLeft, Leaves, Put, Called, Grew};
+ghost use Rattle.disk_model.specs.Disk.{FromLeft, Leaves, Put, Called, HasCause};
 ghost use Rattle.journal.specs.Groups.{Resting, Appended, GroupStands, sealed};
 
 use crate::{Group, JournalFault};
@@ -51,13 +51,10 @@ pub fn append<D: Disk>(
     ensures called { D.honest disk.old
         → OnOk result (Called 4 (D.called disk.old) (D.called disk.new)) }
     ensures calls { D.honest disk.old → D.called disk.new ≤ D.called disk.old + 4 }
-    ensures failures { D.failed disk.old ≤ D.failed disk.new }
 
     // No call follows one that has failed, since that one might fail too.
-    ensures by_one { D.failed disk.new ≤ D.failed disk.old + 1 }
-    ensures no_failure { OnOk result (D.failed disk.new ≡ D.failed disk.old) }
-    ensures device { IsErrOf result JournalFault.Device
-        → Grew (D.failed disk.old) (D.failed disk.new) }
+    ensures cause { HasCause (D.failed disk.old) (D.failed disk.new)
+        (IsErrOf result JournalFault.Device) }
     ensures full { IsErrOf result JournalFault.Full ↔ 67108864 < at + length group.now.body + 6 }
     ensures full_stays { IsErrOf result JournalFault.Full → disk.new ≡ disk.old }
     ensures damaged { IsErrOf result JournalFault.Damaged → ⊥ }

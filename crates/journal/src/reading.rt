@@ -1,7 +1,7 @@
 //! Reading the leading open groups of a file.
 ghost use Rattle.std.specs.Prelude.{◌≡◌, ◌+◌, ◌<◌, ◌≤◌, List, ℕ, length, get_or, IfOk, OnOk, IfSome, IsErrOf};
 ghost use Rattle.byteorder.specs.Endian.{big_bytes};
-ghost use Rattle.disk_model.specs.Disk.{Looks, Grew};
+ghost use Rattle.disk_model.specs.Disk.{Looks, HasCause};
 ghost use Rattle.journal.specs.Groups.{Groups, GroupsOnce, IsRead, IsBrokenAt, bodies_of};
 
 use crate::JournalFault;
@@ -38,12 +38,8 @@ fn read_group<D: Disk>(
     ensures looks { D.honest disk.old → Looks D.moment D.left D.seen disk.old disk.new }
     ensures within { IfOk result (λ group.
         IfSome group (λ body. at + 5 + length body.items < end)) }
-    ensures failures { D.failed disk.old ≤ D.failed disk.new }
-    ensures by_one { D.failed disk.new ≤ D.failed disk.old + 1 }
-    ensures no_failure { OnOk result (D.failed disk.new ≡ D.failed disk.old) }
-    ensures device { IsErrOf result JournalFault.Device
-        → Grew (D.failed disk.old) (D.failed disk.new) }
-    ensures by_device { D.failed disk.old < D.failed disk.new → IsErrOf result JournalFault.Device }
+    ensures cause { HasCause (D.failed disk.old) (D.failed disk.new)
+        (IsErrOf result JournalFault.Device) }
     ensures full { IsErrOf result JournalFault.Full → ⊥ }
 {
     let mut gate = [0];
@@ -96,12 +92,8 @@ pub fn groups<D: Disk>(
     ensures memory { D.honest disk.old → IsErrOf result JournalFault.NoMemory
         → get_or (D.seen disk.old file) at 0 ≡ 1 }
     ensures looks { D.honest disk.old → Looks D.moment D.left D.seen disk.old disk.new }
-    ensures failures { D.failed disk.old ≤ D.failed disk.new }
-    ensures by_one { D.failed disk.new ≤ D.failed disk.old + 1 }
-    ensures no_failure { OnOk result (D.failed disk.new ≡ D.failed disk.old) }
-    ensures device { IsErrOf result JournalFault.Device
-        → Grew (D.failed disk.old) (D.failed disk.new) }
-    ensures by_device { D.failed disk.old < D.failed disk.new → IsErrOf result JournalFault.Device }
+    ensures cause { HasCause (D.failed disk.old) (D.failed disk.new)
+        (IsErrOf result JournalFault.Device) }
     ensures full { IsErrOf result JournalFault.Full → ⊥ }
 {
     let end = disk.len(file)?;

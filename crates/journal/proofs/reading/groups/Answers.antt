@@ -87,5 +87,5 @@ loop-bodies-preserved g c = record {
       let more = read_on (g.D.Disk.seen c.args.disk.now file) c.args.at c.loop-bodies.place (c.loop-bodies.place + (5 + c.len-in-Some.result)) (bodies_of c.loop-bodies.bodies.items) c.in-Some.body.items (c.loop-bodies.invariant.read h0) here (omega (arith, c.len-in-Some.ensures)) in
       subst (λ l. Read (g.D.Disk.seen c.args.disk.now file) c.args.at l (c.loop-bodies.place + (5 + c.len-in-Some.result))) (sym (ap bodies_of c.in_ok-push.ensures.items ∙ map_push _ c.loop-bodies.bodies.items c.in-Some.body)) more;
   size = c.loop-bodies.invariant.size;
-  failures = c.in_ok-body.ensures.no_failure ∙ c.loop-bodies.invariant.failures;
+  failures = c.in_ok-body.ensures.cause.others (λ told. absurd cc) ∙ c.loop-bodies.invariant.failures;
 }
