@@ -4,10 +4,10 @@
 //! `durable::recover` what they stand for, compares the configuration, and keeps what was found (`keep`). Where neither
 //! gate is open, `make_first` makes file A anew. Where the active file is of a former version, `make_current` makes the
 //! other one anew for the same state.
-ghost use Rattle.std.specs.Prelude.{◌≡◌, ◌≢◌, ◌+◌, ◌-◌, ◌^◌, ◌<◌, ◌≤◌, ◌↔◌, [], length, true, false, IsTrue, IfOk, IfSome, OnOk, OnErr, IsErrOf};
+ghost use Rattle.std.specs.Prelude.{◌≡◌, ◌≢◌, ◌+◌, ◌-◌, ◌^◌, ◌<◌, ◌≤◌, ◌↔◌, [], length, true, false, IsTrue, IfOk, IfSome, OnOk, OnErr, IsErr, IsErrOf};
 ghost use Rattle.disk_model.specs.declared.disk.FileId.{FileId};
 ghost use Rattle.disk_model.specs.declared.disk.FileId.TheVariants.{A, B};
-ghost use Rattle.disk_model.specs.Disk.{Same, Leaves, LeavesNow, LeavesOnly, Looks, Synced, Grew, HasCause, Elsewhere, other, pair};
+ghost use Rattle.disk_model.specs.Disk.{Same, Leaves, LeavesNow, LeavesOnly, Looks, Synced, HasCause, Elsewhere, other, pair};
 ghost use Rattle.durable.specs.Entering.{Durable, IsDurable, empty};
 ghost use Rattle.durable.specs.Laws.{anew, IsFresh};
 ghost use Rattle.durable.specs.Recovery.{Alike, IsConfigured, IsCurrent, NoneOpen, Recovers};
@@ -50,7 +50,7 @@ fn sync_both<D: Disk>(disk: &mut D) -> Result<(), DiskFault>
         → OnOk result (Looks D.moment D.left D.seen disk.old disk.new) }
     ensures synced { D.honest disk.old → OnOk result ((file : FileId)
         → Synced D.moment D.left D.seen disk.new file) }
-    ensures cause { HasCause (D.failed disk.old) (D.failed disk.new) result }
+    ensures cause { HasCause (D.failed disk.old) (D.failed disk.new) (IsErr result) }
 {
     disk.sync(FileId::A)?;
     disk.sync(FileId::B)?;
@@ -69,13 +69,8 @@ fn look<D: Disk>(alloc: Global, disk: &mut D) -> Result<(Vec<u8>, Vec<u8>), Open
     ensures leaves { D.honest disk.old → Leaves D.moment D.left disk.old disk.new Same }
     ensures looks { D.honest disk.old → ¬ IsErrOf result OpenFault.Device
         → Looks D.moment D.left D.seen disk.old disk.new }
-    ensures failures { D.failed disk.old ≤ D.failed disk.new }
-    ensures by_one { D.failed disk.new ≤ D.failed disk.old + 1 }
-    ensures no_failure { OnOk result (D.failed disk.new ≡ D.failed disk.old) }
-    ensures only_device { ¬ IsErrOf result OpenFault.Device
-        → D.failed disk.new ≡ D.failed disk.old }
-    ensures device { IsErrOf result OpenFault.Device
-        → Grew (D.failed disk.old) (D.failed disk.new) }
+    ensures cause { HasCause (D.failed disk.old) (D.failed disk.new)
+        (IsErrOf result OpenFault.Device) }
     ensures damaged { IsErrOf result OpenFault.Damaged → ⊥ }
     ensures differs { IsErrOf result OpenFault.ConfigDiffers → ⊥ }
     ensures generations { IsErrOf result OpenFault.Generations → ⊥ }
@@ -164,13 +159,8 @@ fn make_first<D: Disk>(alloc: Global, disk: &mut D, bounds: &Bounds) -> Result<R
     ensures empty { IfOk result (λ r. found_state r ≡ empty) }
     ensures bounds { IfOk result (λ r. r.bounds ≡ bounds.now) }
     ensures stays { ¬ IsErrOf result OpenFault.Device → OnErr result (disk.new ≡ disk.old) }
-    ensures failures { D.failed disk.old ≤ D.failed disk.new }
-    ensures by_one { D.failed disk.new ≤ D.failed disk.old + 1 }
-    ensures no_failure { OnOk result (D.failed disk.new ≡ D.failed disk.old) }
-    ensures only_device { ¬ IsErrOf result OpenFault.Device
-        → D.failed disk.new ≡ D.failed disk.old }
-    ensures device { IsErrOf result OpenFault.Device
-        → Grew (D.failed disk.old) (D.failed disk.new) }
+    ensures cause { HasCause (D.failed disk.old) (D.failed disk.new)
+        (IsErrOf result OpenFault.Device) }
     ensures damaged { IsErrOf result OpenFault.Damaged → ⊥ }
     ensures differs { IsErrOf result OpenFault.ConfigDiffers → ⊥ }
     ensures generations { IsErrOf result OpenFault.Generations → ⊥ }
@@ -229,13 +219,8 @@ fn migrate<D: Disk>(alloc: Global, disk: &mut D, found: Ready) -> Result<Ready, 
     ensures generations { IsErrOf result OpenFault.Generations
         → found.generation ≡ 2 ^ 64 - 1 }
     ensures stays { ¬ IsErrOf result OpenFault.Device → OnErr result (disk.new ≡ disk.old) }
-    ensures failures { D.failed disk.old ≤ D.failed disk.new }
-    ensures by_one { D.failed disk.new ≤ D.failed disk.old + 1 }
-    ensures no_failure { OnOk result (D.failed disk.new ≡ D.failed disk.old) }
-    ensures only_device { ¬ IsErrOf result OpenFault.Device
-        → D.failed disk.new ≡ D.failed disk.old }
-    ensures device { IsErrOf result OpenFault.Device
-        → Grew (D.failed disk.old) (D.failed disk.new) }
+    ensures cause { HasCause (D.failed disk.old) (D.failed disk.new)
+        (IsErrOf result OpenFault.Device) }
     ensures damaged { IsErrOf result OpenFault.Damaged → ⊥ }
     ensures differs { IsErrOf result OpenFault.ConfigDiffers → ⊥ }
 {
@@ -299,13 +284,8 @@ fn make_current<D: Disk>(alloc: Global, disk: &mut D, found: Ready) -> Result<Re
     ensures generations { IsErrOf result OpenFault.Generations
         → (found.version ≢ latest) × (found.generation ≡ 2 ^ 64 - 1) }
     ensures stays { ¬ IsErrOf result OpenFault.Device → OnErr result (disk.new ≡ disk.old) }
-    ensures failures { D.failed disk.old ≤ D.failed disk.new }
-    ensures by_one { D.failed disk.new ≤ D.failed disk.old + 1 }
-    ensures no_failure { OnOk result (D.failed disk.new ≡ D.failed disk.old) }
-    ensures only_device { ¬ IsErrOf result OpenFault.Device
-        → D.failed disk.new ≡ D.failed disk.old }
-    ensures device { IsErrOf result OpenFault.Device
-        → Grew (D.failed disk.old) (D.failed disk.new) }
+    ensures cause { HasCause (D.failed disk.old) (D.failed disk.new)
+        (IsErrOf result OpenFault.Device) }
     ensures damaged { IsErrOf result OpenFault.Damaged → ⊥ }
     ensures differs { IsErrOf result OpenFault.ConfigDiffers → ⊥ }
 {
@@ -367,13 +347,8 @@ pub(crate) fn make_ready<D: Disk>(
         → OnErr result (Looks D.moment D.left D.seen disk.old disk.new) }
     ensures unwritten { D.honest disk.old → ¬ MayWrite bounds.now (D.seen disk.old)
         → Leaves D.moment D.left disk.old disk.new Same }
-    ensures failures { D.failed disk.old ≤ D.failed disk.new }
-    ensures by_one { D.failed disk.new ≤ D.failed disk.old + 1 }
-    ensures no_failure { OnOk result (D.failed disk.new ≡ D.failed disk.old) }
-    ensures only_device { ¬ IsErrOf result OpenFault.Device
-        → D.failed disk.new ≡ D.failed disk.old }
-    ensures device { IsErrOf result OpenFault.Device
-        → Grew (D.failed disk.old) (D.failed disk.new) }
+    ensures cause { HasCause (D.failed disk.old) (D.failed disk.new)
+        (IsErrOf result OpenFault.Device) }
 {
     let (a, b) = look(alloc, disk)?;
     match recover_for(alloc, &a, &b, bounds)? {

@@ -1,7 +1,7 @@
 //! The store: two files, of which one is active. It is opened (`open`), commits groups (`commit`), and is compacted
 //! (`compact`); once a call of its disk has failed it can only give that back (`into_disk`).
 ghost use Rattle.std.specs.Prelude.{◌≡◌, ◌∷◌, ◌+◌, ◌-◌, ◌^◌, ◌<◌, ◌≤◌, ◌↔◌, length, IsTrue, MatchResult, IfOk, IfErr, OnOk, IsErrOf, true, false};
-ghost use Rattle.disk_model.specs.Disk.{Elsewhere, Leaves, LeavesNow, LeavesOnly, Looks, Put, Same, Called, Grew};
+ghost use Rattle.disk_model.specs.Disk.{Elsewhere, Leaves, LeavesNow, LeavesOnly, Looks, Put, Same, Called, HasCause};
 ghost use Rattle.disk_model.specs.declared.disk.FileId.{FileId};
 ghost use Rattle.durable.specs.Coding.{heading_bytes};
 ghost use Rattle.durable.specs.Entering.{Durable, IsDurable, durable, BodyEnters};
@@ -159,15 +159,10 @@ impl<D: Disk + Drop> Store<D> {
         ensures unwritten { D.honest disk → ¬ MayWrite bounds.now (D.seen disk)
             → MatchResult result (λ o. Leaves D.moment D.left disk o.store.disk Same)
             (λ e. Leaves D.moment D.left disk e.0 Same) }
-        ensures failures { MatchResult result (λ o. D.failed o.store.disk ≡ D.failed disk)
-            (λ e. D.failed disk ≤ D.failed e.0) }
 
         // No call follows one that has failed, since that one might fail too.
-        ensures by_one { IfErr result (λ e. D.failed e.0 ≤ D.failed disk + 1) }
-        ensures only_device { IfErr result (λ e. ¬ (e.1 ≡ OpenFault.Device)
-            → D.failed e.0 ≡ D.failed disk) }
-        ensures device { IfErr result (λ e. e.1 ≡ OpenFault.Device
-            → Grew (D.failed disk) (D.failed e.0)) }
+        ensures cause { MatchResult result (λ o. D.failed o.store.disk ≡ D.failed disk)
+            (λ e. HasCause (D.failed disk) (D.failed e.0) (e.1 ≡ OpenFault.Device)) }
     {
         let mut disk = disk;
         match make_ready(alloc, &mut disk, bounds) {
@@ -293,13 +288,10 @@ impl<D: Disk + Drop> Store<D> {
         ensures fell { IsErrOf result CommitFault.Device ↔ self.new.fallen ≡ true }
         ensures called { D.honest self.old.disk
             → OnOk result (Called 4 (D.called self.old.disk) (D.called self.new.disk)) }
-        ensures failures { D.failed self.old.disk ≤ D.failed self.new.disk }
 
         // No call follows one that has failed, since that one might fail too.
-        ensures by_one { D.failed self.new.disk ≤ D.failed self.old.disk + 1 }
-        ensures no_failure { OnOk result (D.failed self.new.disk ≡ D.failed self.old.disk) }
-        ensures device { IsErrOf result CommitFault.Device
-            → Grew (D.failed self.old.disk) (D.failed self.new.disk) }
+        ensures cause { HasCause (D.failed self.old.disk) (D.failed self.new.disk)
+            (IsErrOf result CommitFault.Device) }
     {
         match append(&mut self.disk, self.active, self.end, group) {
             Ok(next) => {
@@ -373,13 +365,10 @@ impl<D: Disk + Drop> Store<D> {
         ensures fell { IsErrOf result CompactFault.Device ↔ self.new.fallen ≡ true }
         ensures called { D.honest self.old.disk
             → OnOk result (Called 6 (D.called self.old.disk) (D.called self.new.disk)) }
-        ensures failures { D.failed self.old.disk ≤ D.failed self.new.disk }
 
         // No call follows one that has failed, since that one might fail too.
-        ensures by_one { D.failed self.new.disk ≤ D.failed self.old.disk + 1 }
-        ensures no_failure { OnOk result (D.failed self.new.disk ≡ D.failed self.old.disk) }
-        ensures device { IsErrOf result CompactFault.Device
-            → Grew (D.failed self.old.disk) (D.failed self.new.disk) }
+        ensures cause { HasCause (D.failed self.old.disk) (D.failed self.new.disk)
+            (IsErrOf result CompactFault.Device) }
     {
         if self.generation == u64::MAX {
             return Err(CompactFault::Generations);
