@@ -20,6 +20,7 @@ ghost use Rattle.hairpin.specs.Tallies.{AreOf};
 ghost use Rattle.hairpin.specs.FromInside.{GoesOutFirst, Hairpins, HairpinsNew, IsBehindFirst};
 ghost use Rattle.hairpin.specs.declared.held.Held.{Held};
 
+use crate::asking::Asking;
 use crate::cause::Cause;
 use crate::filtering::mapped_inside;
 use crate::held::{
@@ -63,11 +64,18 @@ pub fn hairpin_leg(
     ensures { Plans bounds.now.external table.now.held now result
         (hairpin_way bounds.now rules.now (listing table.now.held) now view.now) }
 {
-    let first = match first_leg(bounds, table, translations, view, now) {
-        Ok(leg) => leg,
-        Err(cause) => return Err(cause),
+    let asking = Asking {
+        bounds,
+        rules,
+        table,
+        translations,
+        view,
+        moment: now,
     };
-    after_first(bounds, rules, table, translations, view, &first, now)
+    match first_leg(&asking) {
+        Ok(first) => after_first(&asking, &first),
+        Err(cause) => Err(cause),
+    }
 }
 
 // The session of a leg as it is once the packet has passed, and as it was held before.
@@ -125,22 +133,20 @@ fn change_of_leg(leg: &Leg, sender: Opener, flags: Flags) -> Change
 }
 
 // The outside endpoint of a new first session: that of the mapping, or one that is chosen.
-fn outside_near(
-    bounds: &Bounds,
-    table: &Table,
-    translations: &Translations,
-    mapped: Option<Endpoint>,
-    view: &View,
-) -> Result<Endpoint, Cause>
-    requires { HairpinsNew bounds.now table.now.held translations.now mapped view.now }
-    ensures { (rules : Spelled) (now : ℕ) → let sessions = listing table.now.held in
-        result ≡ outside_near_way bounds.now rules sessions now view.now
-        (find (maps_inside view.now.proto view.now.src) sessions) }
+fn outside_near(asking: &Asking, mapped: Option<Endpoint>) -> Result<Endpoint, Cause>
+    requires { let a = asking.now in
+        HairpinsNew a.bounds.now a.table.now.held a.translations.now mapped a.view.now }
+    ensures { (rules : Spelled) (now : ℕ) → let a = asking.now in
+        let sessions = listing a.table.now.held in
+        result ≡ outside_near_way a.bounds.now rules sessions now a.view.now
+        (find (maps_inside a.view.now.proto a.view.now.src) sessions) }
 {
-    bounds.facts();
+    asking.bounds.facts();
     match mapped {
         Some(outside) => Ok(outside),
         None => {
+            let view = asking.view;
+            let translations = asking.translations;
             let choice = translations.choose_near(view.proto, view.src, view.dst.addr);
             choice.ok_or(Cause::NoPort)
         }
@@ -148,55 +154,48 @@ fn outside_near(
 }
 
 // A new session that the packet goes out by, where none is held.
-fn first_session(
-    bounds: &Bounds,
-    table: &Table,
-    translations: &Translations,
-    mapped: Option<Endpoint>,
-    view: &View,
-    now: u64,
-) -> Result<Session, Cause>
-    requires { HairpinsNew bounds.now table.now.held translations.now mapped view.now }
-    ensures { (rules : Spelled)
-        → result ≡ first_by bounds.now rules (listing table.now.held) now view.now None }
+fn first_session(asking: &Asking, mapped: Option<Endpoint>) -> Result<Session, Cause>
+    requires { let a = asking.now in
+        HairpinsNew a.bounds.now a.table.now.held a.translations.now mapped a.view.now }
+    ensures { (rules : Spelled) → let a = asking.now in result
+        ≡ first_by a.bounds.now rules (listing a.table.now.held) a.moment a.view.now None }
 {
+    let view = asking.view;
+    let now = asking.moment;
     if needs_session(view) {
         return Err(Cause::NoSession);
     }
-    match outside_near(bounds, table, translations, mapped, view) {
+    match outside_near(asking, mapped) {
         Ok(outside) => Ok(new_session(view, Opener::Inside, view.src, outside, view.dst, now)),
         Err(cause) => Err(cause),
     }
 }
 
 // The session that the packet goes out by, held or new.
-fn first_leg(
-    bounds: &Bounds,
-    table: &Table,
-    translations: &Translations,
-    view: &View,
-    now: u64,
-) -> Result<Leg, Cause>
-    requires { Hairpins bounds.now table.now.held translations.now view.now }
-    ensures session { let sessions = listing table.now.held in
-        (rules : Spelled) → IfOk result (λ leg. first_by bounds.now rules sessions now view.now
-        (find (has_inside view.now.proto view.now.src view.now.dst) sessions)
-        ≡ Ok leg.session) }
-    ensures cause { let sessions = listing table.now.held in
-        (rules : Spelled) → IfErr result (λ cause. first_by bounds.now rules sessions now view.now
-        (find (has_inside view.now.proto view.now.src view.now.dst) sessions)
-        ≡ Err cause) }
-    ensures before { IfOk result (λ leg. option_map (λ (h : Held). h.session) leg.before
-        ≡ find (has_inside view.now.proto view.now.src view.now.dst) (listing table.now.held)) }
-    ensures slot { IfOk result (λ leg. IfSome leg.before (λ h. at table.now h.slot
+fn first_leg(asking: &Asking) -> Result<Leg, Cause>
+    requires { let a = asking.now in
+        Hairpins a.bounds.now a.table.now.held a.translations.now a.view.now }
+    ensures session { let a = asking.now in let sessions = listing a.table.now.held in
+        let view = a.view.now in (rules : Spelled) → IfOk result (λ leg.
+        first_by a.bounds.now rules sessions a.moment view
+        (find (has_inside view.proto view.src view.dst) sessions) ≡ Ok leg.session) }
+    ensures cause { let a = asking.now in let sessions = listing a.table.now.held in
+        let view = a.view.now in (rules : Spelled) → IfErr result (λ cause.
+        first_by a.bounds.now rules sessions a.moment view
+        (find (has_inside view.proto view.src view.dst) sessions) ≡ Err cause) }
+    ensures before { let view = asking.now.view.now in
+        IfOk result (λ leg. option_map (λ (h : Held). h.session) leg.before
+        ≡ find (has_inside view.proto view.src view.dst) (listing asking.now.table.now.held)) }
+    ensures slot { IfOk result (λ leg. IfSome leg.before (λ h. at asking.now.table.now h.slot
         ≡ Some h.session)) }
 {
-    match held_or_mapped(table, view.proto, view.src, view.dst) {
+    let view = asking.view;
+    match held_or_mapped(asking.table, view.proto, view.src, view.dst) {
         Ok(held) => Ok(Leg {
-            session: passed(&held.session, Opener::Inside, view.flags, now),
+            session: passed(&held.session, Opener::Inside, view.flags, asking.moment),
             before: Some(held),
         }),
-        Err(mapped) => match first_session(bounds, table, translations, mapped, view, now) {
+        Err(mapped) => match first_session(asking, mapped) {
             Ok(session) => Ok(Leg {
                 session,
                 before: None,
@@ -208,18 +207,19 @@ fn first_leg(
 
 // The inside endpoint of a new second session: what the rules say, or that of the mapping, if it lets the first
 // session's outside endpoint in. The first session isn't in the table, and isn't one of the mapping either.
-fn inside_far(
-    bounds: &Bounds,
-    rules: &Rules,
-    table: &Table,
-    translations: &Translations,
-    view: &View,
-    first: &Session,
-) -> Result<Endpoint, Cause>
-    requires { AreOf bounds.now table.now.held translations.now }
-    ensures { (now : ℕ) → let sessions = listing table.now.held in
-        result ≡ inside_far_way bounds.now rules.now sessions now view.now first.now sessions }
+fn inside_far(asking: &Asking, first: &Session) -> Result<Endpoint, Cause>
+    requires { let a = asking.now in AreOf a.bounds.now a.table.now.held a.translations.now }
+    ensures { (now : ℕ) → let a = asking.now in let sessions = listing a.table.now.held in result
+        ≡ inside_far_way a.bounds.now a.rules.now sessions now a.view.now first.now sessions }
 {
+    let Asking {
+        bounds,
+        rules,
+        table,
+        translations,
+        view,
+        ..
+    } = *asking;
     let facts = facts_of(view, Iface::Lan, None, view.dst, State::New);
     let remote = first.outside.addr;
     match prerouting(rules, bounds, &facts) {
@@ -254,63 +254,52 @@ fn begun_second(
 }
 
 // A new session that the packet comes in by, where none is held.
-fn second_session(
-    bounds: &Bounds,
-    rules: &Rules,
-    table: &Table,
-    translations: &Translations,
-    view: &View,
-    first: &Session,
-    now: u64,
-) -> Result<Session, Cause>
-    requires { IsBehindFirst bounds.now table.now.held translations.now view.now first.now }
-    ensures { let sessions = listing table.now.held in
-        result ≡ second_by bounds.now rules.now sessions now view.now first.now
+fn second_session(asking: &Asking, first: &Session) -> Result<Session, Cause>
+    requires { let a = asking.now in
+        IsBehindFirst a.bounds.now a.table.now.held a.translations.now a.view.now first.now }
+    ensures { let a = asking.now in let sessions = listing a.table.now.held in
+        result ≡ second_by a.bounds.now a.rules.now sessions a.moment a.view.now first.now
         (put first.now sessions) None }
 {
+    let view = asking.view;
     if needs_session(view) {
         return Err(Cause::NoSession);
     }
-    match inside_far(bounds, rules, table, translations, view, first) {
-        Ok(inside) => begun_second(table, view, first, inside, now),
+    match inside_far(asking, first) {
+        Ok(inside) => begun_second(asking.table, view, first, inside, asking.moment),
         Err(cause) => Err(cause),
     }
 }
 
 // The session that the packet comes in by, held or new.
-fn second_leg(
-    bounds: &Bounds,
-    rules: &Rules,
-    table: &Table,
-    translations: &Translations,
-    view: &View,
-    first: &Session,
-    now: u64,
-) -> Result<Leg, Cause>
-    requires { IsBehindFirst bounds.now table.now.held translations.now view.now first.now }
-    ensures session { let sessions = listing table.now.held in
-        IfOk result (λ leg. second_by bounds.now rules.now sessions now view.now first.now
-        (put first.now sessions)
-        (find (has_outside view.now.proto view.now.dst first.now.outside) (put first.now sessions))
+fn second_leg(asking: &Asking, first: &Session) -> Result<Leg, Cause>
+    requires { let a = asking.now in
+        IsBehindFirst a.bounds.now a.table.now.held a.translations.now a.view.now first.now }
+    ensures session { let a = asking.now in let sessions = listing a.table.now.held in
+        let view = a.view.now in IfOk result (λ leg.
+        second_by a.bounds.now a.rules.now sessions a.moment view first.now (put first.now sessions)
+        (find (has_outside view.proto view.dst first.now.outside) (put first.now sessions))
         ≡ Ok leg.session) }
-    ensures cause { let sessions = listing table.now.held in
-        IfErr result (λ cause. second_by bounds.now rules.now sessions now view.now first.now
-        (put first.now sessions)
-        (find (has_outside view.now.proto view.now.dst first.now.outside) (put first.now sessions))
+    ensures cause { let a = asking.now in let sessions = listing a.table.now.held in
+        let view = a.view.now in IfErr result (λ cause.
+        second_by a.bounds.now a.rules.now sessions a.moment view first.now (put first.now sessions)
+        (find (has_outside view.proto view.dst first.now.outside) (put first.now sessions))
         ≡ Err cause) }
-    ensures before { IfOk result (λ leg. option_map (λ (h : Held). h.session) leg.before
-        ≡ find (has_outside view.now.proto view.now.dst first.now.outside)
-        (listing table.now.held)) }
-    ensures slot { IfOk result (λ leg. IfSome leg.before (λ h. at table.now h.slot
+    ensures before { let view = asking.now.view.now in
+        IfOk result (λ leg. option_map (λ (h : Held). h.session) leg.before
+        ≡ find (has_outside view.proto view.dst first.now.outside)
+        (listing asking.now.table.now.held)) }
+    ensures slot { IfOk result (λ leg. IfSome leg.before (λ h. at asking.now.table.now h.slot
         ≡ Some h.session)) }
 {
-    let before = held_outside(table, view.proto, view.dst, first.outside);
+    let view = asking.view;
+    let before = held_outside(asking.table, view.proto, view.dst, first.outside);
     match &before {
         Some(held) => Ok(Leg {
-            session: passed(&held.session, Opener::Remote, view.flags, now),
+            session: passed(&held.session, Opener::Remote, view.flags, asking.moment),
             before,
         }),
-        None => match second_session(bounds, rules, table, translations, view, first, now) {
+        None => match second_session(asking, first) {
             Ok(session) => Ok(Leg {
                 session,
                 before: None,
@@ -361,53 +350,48 @@ fn news(leg: &Leg) -> usize
 }
 
 // The way of a packet whose first leg is known.
-fn after_first(
-    bounds: &Bounds,
-    rules: &Rules,
-    table: &Table,
-    translations: &Translations,
-    view: &View,
-    first: &Leg,
-    now: u64,
-) -> Result<Plan, Cause>
-    requires hairpins { Hairpins bounds.now table.now.held translations.now view.now }
-    requires before { option_map (λ (h : Held). h.session) first.now.before
-        ≡ find (has_inside view.now.proto view.now.src view.now.dst) (listing table.now.held) }
-    requires slot { IfSome first.now.before (λ h. at table.now h.slot ≡ Some h.session) }
-    requires session { first_by bounds.now rules.now (listing table.now.held) now view.now
-        (find (has_inside view.now.proto view.now.src view.now.dst) (listing table.now.held))
-        ≡ Ok first.now.session }
-    ensures { let sessions = listing table.now.held in
-        let found = find (has_inside view.now.proto view.now.src view.now.dst) sessions in
-        Plans bounds.now.external table.now.held now result
+fn after_first(asking: &Asking, first: &Leg) -> Result<Plan, Cause>
+    requires hairpins { let a = asking.now in
+        Hairpins a.bounds.now a.table.now.held a.translations.now a.view.now }
+    requires before { let view = asking.now.view.now in
+        option_map (λ (h : Held). h.session) first.now.before
+        ≡ find (has_inside view.proto view.src view.dst) (listing asking.now.table.now.held) }
+    requires slot { IfSome first.now.before (λ h. at asking.now.table.now h.slot ≡ Some h.session) }
+    requires session { let a = asking.now in let sessions = listing a.table.now.held in
+        let view = a.view.now in first_by a.bounds.now a.rules.now sessions a.moment view
+        (find (has_inside view.proto view.src view.dst) sessions) ≡ Ok first.now.session }
+    ensures { let config = asking.now.bounds.now in let rules = asking.now.rules.now in
+        let sessions = listing asking.now.table.now.held in let view = asking.now.view.now in
+        let now = asking.now.moment in
+        let found = find (has_inside view.proto view.src view.dst) sessions in
+        Plans config.external asking.now.table.now.held now result
         (then_with
-        (second_way bounds.now rules.now sessions now view.now first.now.session
+        (second_way config rules sessions now view first.now.session
         (put first.now.session sessions))
-        (λ t. forwarded bounds.now rules.now sessions now view.now Iface.Lan Iface.Lan view.now.src
-        t.inside (first_state bounds.now rules.now sessions now view.now found)
-        (counted bounds.now rules.now sessions now view.now (through first.now.session t)))) }
+        (λ t. forwarded config rules sessions now view Iface.Lan Iface.Lan view.src t.inside
+        (first_state config rules sessions now view found)
+        (counted config rules sessions now view (through first.now.session t)))) }
 {
-    bounds.facts();
+    let view = asking.view;
+    asking.bounds.facts();
     if first.session.outside == view.dst {
         return Err(Cause::SelfMapped);
     }
-    let second = match second_leg(
-        bounds,
-        rules,
-        table,
-        translations,
-        view,
-        &first.session,
-        now,
-    ) {
+    let second = match second_leg(asking, &first.session) {
         Ok(leg) => leg,
         Err(cause) => return Err(cause),
     };
     let state = state_of_first(&first.before, view);
-    if !is_forwarded(bounds, rules, view, second.session.inside, state) {
+    if !is_forwarded(
+        asking.bounds,
+        asking.rules,
+        view,
+        second.session.inside,
+        state,
+    ) {
         return Err(Cause::Rule);
     }
-    if sessions_after(table, first, &second) > MOST_SESSIONS {
+    if sessions_after(asking.table, first, &second) > MOST_SESSIONS {
         return Err(Cause::TableFull);
     }
     Ok(Plan {

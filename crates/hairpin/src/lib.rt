@@ -9,6 +9,7 @@
 //! An endpoint is an address with a port. An outside endpoint is what an inside one is called towards its
 //! remote one; where nothing is translated the two are the same.
 //!
+//! - `asking`: what a leg goes by.
 //! - `cause`: why a packet is dropped; `plan`: what a packet that passes changes.
 //! - `translations`: the mappings and the outside ports that they take, which change together, and the choice of an
 //!   outside endpoint.
@@ -22,6 +23,7 @@
 //! - `laws`: what holds of the legs, whatever the rules and sessions.
 #![tactic(auto)]
 
+mod asking;
 mod cause;
 mod filtering;
 mod going;

@@ -9,6 +9,7 @@ ghost use Rattle.hairpin.specs.KeepBounds.{KeepBounds};
 ghost use Rattle.hairpin.specs.Tallies.{AreOf};
 ghost use Rattle.hairpin.specs.FromInside.{GoesOut, GoesOutNew};
 
+use crate::asking::Asking;
 use crate::cause::Cause;
 use crate::held::{
     Held, change_of, connection_of, facts_of, held_or_mapped, needs_session, new_session,
@@ -48,7 +49,17 @@ pub fn out_leg(
 {
     match held_or_mapped(table, view.proto, view.src, view.dst) {
         Ok(found) => known_out(bounds, rules, &found, view),
-        Err(mapped) => new_out(bounds, rules, table, translations, mapped, view, now),
+        Err(mapped) => {
+            let asking = Asking {
+                bounds,
+                rules,
+                table,
+                translations,
+                view,
+                moment: now,
+            };
+            new_out(&asking, mapped)
+        }
     }
 }
 
@@ -67,89 +78,69 @@ fn known_out(bounds: &Bounds, rules: &Rules, found: &Held, view: &View) -> Resul
 }
 
 // How a packet without a session goes out.
-fn new_out(
-    bounds: &Bounds,
-    rules: &Rules,
-    table: &Table,
-    translations: &Translations,
-    mapped: Option<Endpoint>,
-    view: &View,
-    now: u64,
-) -> Result<Plan, Cause>
-    requires { GoesOutNew bounds.now rules.now table.now.held translations.now mapped view.now }
-    ensures { Plans bounds.now.external table.now.held now result
-        (out_by bounds.now rules.now (listing table.now.held) now view.now None) }
+fn new_out(asking: &Asking, mapped: Option<Endpoint>) -> Result<Plan, Cause>
+    requires { let a = asking.now in GoesOutNew a.bounds.now a.rules.now a.table.now.held
+        a.translations.now mapped a.view.now }
+    ensures { let a = asking.now in Plans a.bounds.now.external a.table.now.held a.moment result
+        (out_by a.bounds.now a.rules.now (listing a.table.now.held) a.moment a.view.now None) }
 {
+    let view = asking.view;
     if needs_session(view) {
         return Err(Cause::NoSession);
     }
-    match forward(rules, bounds, &facts_out(view, State::New)) {
+    match forward(asking.rules, asking.bounds, &facts_out(view, State::New)) {
         Forwarding::Drop => Err(Cause::Rule),
-        Forwarding::Pass => begun_out(bounds, rules, table, translations, mapped, view, now),
+        Forwarding::Pass => begun_out(asking, mapped),
     }
 }
 
 // How a packet that the forward chains let pass begins a session.
-fn begun_out(
-    bounds: &Bounds,
-    rules: &Rules,
-    table: &Table,
-    translations: &Translations,
-    mapped: Option<Endpoint>,
-    view: &View,
-    now: u64,
-) -> Result<Plan, Cause>
-    requires { GoesOutNew bounds.now rules.now table.now.held translations.now mapped view.now }
-    ensures { Plans bounds.now.external table.now.held now result
-        (begun_way bounds.now rules.now (listing table.now.held) now view.now) }
+fn begun_out(asking: &Asking, mapped: Option<Endpoint>) -> Result<Plan, Cause>
+    requires { let a = asking.now in GoesOutNew a.bounds.now a.rules.now a.table.now.held
+        a.translations.now mapped a.view.now }
+    ensures { let a = asking.now in Plans a.bounds.now.external a.table.now.held a.moment result
+        (begun_way a.bounds.now a.rules.now (listing a.table.now.held) a.moment a.view.now) }
 {
-    bounds.facts();
-    match outside_of_new(bounds, rules, table, translations, mapped, view) {
+    asking.bounds.facts();
+    match outside_of_new(asking, mapped) {
         Err(cause) => Err(cause),
         Ok(outside) => {
-            if table.count() == MOST_SESSIONS {
+            if asking.table.count() == MOST_SESSIONS {
                 return Err(Cause::TableFull);
             }
-            let session = new_session(view, Opener::Inside, view.src, outside, view.dst, now);
+            let view = asking.view;
+            let moment = asking.moment;
+            let session = new_session(view, Opener::Inside, view.src, outside, view.dst, moment);
             Ok(plan_of_new(session))
         }
     }
 }
 
 // The outside endpoint of a new session: that of the mapping, or what the rules decide.
-fn outside_of_new(
-    bounds: &Bounds,
-    rules: &Rules,
-    table: &Table,
-    translations: &Translations,
-    mapped: Option<Endpoint>,
-    view: &View,
-) -> Result<Endpoint, Cause>
-    requires { GoesOutNew bounds.now rules.now table.now.held translations.now mapped view.now }
-    ensures { (now : ℕ) → let sessions = listing table.now.held in
-        result ≡ outside_for bounds.now rules.now sessions now view.now
-        (find (maps_inside view.now.proto view.now.src) sessions) }
+fn outside_of_new(asking: &Asking, mapped: Option<Endpoint>) -> Result<Endpoint, Cause>
+    requires { let a = asking.now in GoesOutNew a.bounds.now a.rules.now a.table.now.held
+        a.translations.now mapped a.view.now }
+    ensures { (now : ℕ) → let a = asking.now in let sessions = listing a.table.now.held in
+        result ≡ outside_for a.bounds.now a.rules.now sessions now a.view.now
+        (find (maps_inside a.view.now.proto a.view.now.src) sessions) }
 {
     match mapped {
         Some(outside) => Ok(outside),
-        None => outside_by_rules(bounds, rules, table, translations, view),
+        None => outside_by_rules(asking),
     }
 }
 
 // The outside endpoint that the rules decide.
-fn outside_by_rules(
-    bounds: &Bounds,
-    rules: &Rules,
-    table: &Table,
-    translations: &Translations,
-    view: &View,
-) -> Result<Endpoint, Cause>
-    requires { GoesOut bounds.now rules.now table.now.held translations.now view.now }
-    ensures { (now : ℕ)
-        → result ≡ outside_for bounds.now rules.now (listing table.now.held) now view.now None }
+fn outside_by_rules(asking: &Asking) -> Result<Endpoint, Cause>
+    requires { let a = asking.now in
+        GoesOut a.bounds.now a.rules.now a.table.now.held a.translations.now a.view.now }
+    ensures { (now : ℕ) → let a = asking.now in result
+        ≡ outside_for a.bounds.now a.rules.now (listing a.table.now.held) now a.view.now None }
 {
-    bounds.facts();
-    match postrouting(rules, bounds, &facts_out(view, State::New)) {
+    let translations = asking.translations;
+    let view = asking.view;
+    asking.bounds.facts();
+    match postrouting(asking.rules, asking.bounds, &facts_out(view, State::New)) {
         Source::Drop => Err(Cause::Rule),
         Source::None => Ok(view.src),
         Source::From(addr) => {

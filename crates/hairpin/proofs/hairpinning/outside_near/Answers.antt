@@ -10,18 +10,18 @@ use Rattle.hairpin.proofs.hairpinning.outside_near.Goals as goal
 
 pub returns-in-Some : goal.returns-in-Some
 returns-in-Some c = λ rules now.
-    let view = c.args.view.now in
-    let held = c.args.table.now.held in
-    let m = mapped c.args.bounds.now (listing held) c.requires.hairpins.translations.sound view.proto view.src c.in-Some.outside (subst (λ o. IfSome o (IsMapping (listing held) view.proto view.src)) c.in-Some.is c.requires.mapping.mapped) in
-    sym (ap (outside_near c.args.bounds.now rules (listing held) now view) m.1 ∙ ap (λ e. Ok e) m.2)
+    let view = c.args.asking.now.view.now in
+    let held = c.args.asking.now.table.now.held in
+    let m = mapped c.args.asking.now.bounds.now (listing held) c.requires.hairpins.translations.sound view.proto view.src c.in-Some.outside (subst (λ o. IfSome o (IsMapping (listing held) view.proto view.src)) c.in-Some.is c.requires.mapping.mapped) in
+    sym (ap (outside_near c.args.asking.now.bounds.now rules (listing held) now view) m.1 ∙ ap (λ e. Ok e) m.2)
 
 pub returns-in-None : goal.returns-in-None
 returns-in-None c = λ rules now.
-    let config = c.args.bounds.now in
-    let held = c.args.table.now.held in
-    let view = c.args.view.now in
+    let config = c.args.asking.now.bounds.now in
+    let held = c.args.asking.now.table.now.held in
+    let view = c.args.asking.now.view.now in
     let translations = c.requires.hairpins.translations in
     let choice = c.choose_near-choice.result in
     let absent = subst (λ o. IfNone o ((outside : Endpoint) → ¬ IsMapping (listing held) view.proto view.src outside)) c.in-None.is c.requires.mapping.unmapped in
-    let is = chosen_near config c.facts.ensures.valid held c.args.translations.now translations view.proto view.src.addr view.src.port choice view.dst.addr c.choose_near-choice.ensures in
+    let is = chosen_near config c.facts.ensures.valid held c.args.asking.now.translations.now translations view.proto view.src.addr view.src.port choice view.dst.addr c.choose_near-choice.ensures in
     c.ok_or.ensures.value ∙ or_no_port-is choice ∙ near_chosen config rules (listing held) translations.sound now view choice absent is

@@ -10,11 +10,11 @@ use Rattle.hairpin.proofs.outward.begun_out.Goals as goal
 
 pub returns-then-count-eq-MOST_SESSIONS : goal.returns-then-count-eq-MOST_SESSIONS
 returns-then-count-eq-MOST_SESSIONS c =
-    let config = c.args.bounds.now in
-    let rules = c.args.rules.now in
-    let held = c.args.table.now.held in
-    let now = c.args.now in
-    let view = c.args.view.now in
+    let config = c.args.asking.now.bounds.now in
+    let rules = c.args.asking.now.rules.now in
+    let held = c.args.asking.now.table.now.held in
+    let now = c.args.asking.now.moment in
+    let view = c.args.asking.now.view.now in
     let many = length-listing held ∙ sym c.count.ensures ∙ c.if-count-eq-MOST_SESSIONS.true in
     let way = no_room config rules c.requires.goes_out.bounded (listing held) now view c.facts.ensures.valid c.requires.goes_out.translations.sound c.requires.goes_out.inside c.requires.goes_out.port c.requires.none
     c.in-Ok.outside (sym (c.in-Ok.ensures now)) many in
@@ -22,11 +22,11 @@ returns-then-count-eq-MOST_SESSIONS c =
 
 pub returns-else-count-eq-MOST_SESSIONS : goal.returns-else-count-eq-MOST_SESSIONS
 returns-else-count-eq-MOST_SESSIONS c =
-    let config = c.args.bounds.now in
-    let rules = c.args.rules.now in
-    let held = c.args.table.now.held in
-    let now = c.args.now in
-    let view = c.args.view.now in
+    let config = c.args.asking.now.bounds.now in
+    let rules = c.args.asking.now.rules.now in
+    let held = c.args.asking.now.table.now.held in
+    let now = c.args.asking.now.moment in
+    let view = c.args.asking.now.view.now in
     let outside = c.in-Ok.outside in
     let few : count_by is_some held ≢ 65536 = λ e. c.if-count-eq-MOST_SESSIONS.false (c.count.ensures ∙ e) in
     let most : count_by is_some held ≤ 65536 = omega (arith, c.requires.goes_out.translations.sound.at_most, length-listing held) in

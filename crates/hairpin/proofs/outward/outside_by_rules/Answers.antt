@@ -13,25 +13,25 @@ choose_at-choice-requires-clause-external c =
 
 pub returns-in-From : goal.returns-in-From
 returns-in-From c = λ now.
-    let config = c.args.bounds.now in
-    let rules = c.args.rules.now in
-    let view = c.args.view.now in
-    let held = c.args.table.now.held in
+    let config = c.args.asking.now.bounds.now in
+    let rules = c.args.asking.now.rules.now in
+    let view = c.args.asking.now.view.now in
+    let held = c.args.asking.now.table.now.held in
     let addr = c.in-From.addr in
     let choice = c.choose_at-choice.result in
     let asked = sym c.postrouting.ensures ∙ c.in-From.is in
     let listed = c.requires.bounded.from c.facts_out.result addr asked in
-    let is = chosen_at config c.facts.ensures.valid held c.args.translations.now c.requires.translations view.proto addr view.src.port choice listed c.choose_at-choice.ensures in
+    let is = chosen_at config c.facts.ensures.valid held c.args.asking.now.translations.now c.requires.translations view.proto addr view.src.port choice listed c.choose_at-choice.ensures in
     let verdict = ap (λ f. postrouting_verdict config f rules) (sym c.facts_out.ensures) ∙ asked in
     c.ok_or.ensures.value ∙ or_no_port-is choice ∙ by_snat config rules c.requires.bounded (listing held) now view addr verdict choice is
 
 pub returns-in-Masquerade : goal.returns-in-Masquerade
 returns-in-Masquerade c = λ now.
-    let config = c.args.bounds.now in
-    let rules = c.args.rules.now in
-    let view = c.args.view.now in
-    let held = c.args.table.now.held in
+    let config = c.args.asking.now.bounds.now in
+    let rules = c.args.asking.now.rules.now in
+    let view = c.args.asking.now.view.now in
+    let held = c.args.asking.now.table.now.held in
     let choice = c.choose_for-choice.result in
     let verdict = ap (λ f. postrouting_verdict config f rules) (sym c.facts_out.ensures) ∙ sym c.postrouting.ensures ∙ c.in-Masquerade.is in
-    let is = chosen_pool config c.facts.ensures.valid held c.args.translations.now c.requires.translations view.proto view.src.addr view.src.port choice c.choose_for-choice.ensures in
+    let is = chosen_pool config c.facts.ensures.valid held c.args.asking.now.translations.now c.requires.translations view.proto view.src.addr view.src.port choice c.choose_for-choice.ensures in
     c.ok_or-in-Masquerade.ensures.value ∙ or_no_port-is choice ∙ by_masquerade config rules c.requires.bounded (listing held) now view verdict choice is
