@@ -5,7 +5,7 @@ use Rattle.std.proofs.lemmas.List.{append-nil, map-append}
 use Rattle.disk_model.specs.Disk.{Files, LeavesOnly}
 use Rattle.packet.specs.declared.endpoint.Iface.{Iface}
 use Rattle.packet.specs.declared.endpoint.Iface.TheVariants.{Lan, Wan}
-use Rattle.devices.specs.Handing.{Frames}
+use Rattle.devices.specs.Handing.{Frames, Hands}
 use Rattle.frames.specs.Answers.{frame, frames}
 use Rattle.gateway.specs.Kept.{Kept, IsAtRest, IsSafe}
 use Rattle.gateway.specs.Told.{Told, TookAll}
@@ -147,7 +147,27 @@ took-then old middle new es fs xs ys p q = record {
       ∙ answers_due-append old middle p.judged q.judged xs p.config p.state (last_number old middle es xs p) p.order;
 }
 
+pub events-front : (last : ℕ) (xs ys : List Turn) → all_events last (xs ++ ys) ≡ all_events last xs ++ all_events (last_of last xs) ys
+events-front last [] ys = refl
+events-front last (x ∷ xs) ys =
+    let m = later last x.moment in
+    ap (λ (es : List Event). events_of last x ++ es) (events-front m xs ys) ∙ sym (append_assoc (events_of last x) (all_events m xs) (all_events (last_of m xs) ys))
+
 module _ {D : Type 0} (honest : D → Type 0) (moment : D → ℕ) (left : D → ℕ → Files → Type 0) where
+  -- the same of these events, with the same answers
+  pub carries-as : (a b : Kept D) (es es' : List Event) (hs hs' : List (List ℕ)) (l l' w w' : Frames) → es ≡ es' → hs ≡ hs' → (k : Carries honest moment left a b es hs l l' w w') → (same : Carries honest moment left a b es' hs' l l' w w') × (same.answered ≡ k.answered)
+  carries-as a b es es' hs hs' l l' w w' e h k = (
+    record {
+      answered = k.answered;
+      took = subst (λ (xs : List Event). TookAll a.told b.told xs k.answered) e k.took;
+      none = k.none;
+      to_lan = subst (λ (xs : List (List ℕ)). Hands l l' (handed_to Lan xs k.answered)) h k.to_lan;
+      to_wan = subst (λ (xs : List (List ℕ)). Hands w w' (handed_to Wan xs k.answered)) h k.to_wan;
+      fares = subst (λ (xs : List Event). Fares honest moment left a b xs (frames k.answered)) e k.fares;
+    },
+    refl,
+  )
+
   -- what a run that carried on says of how the files fare
   fares-any : (a b : Kept D) (es : List Event) (sent : List ℕ) → Fares honest moment left a b es sent → IsAtRest honest a → LeavesOnly moment left a.disk b.disk (IsSafe a.told.config a.told.state es 0)
   fares-any a b es sent f ready =
@@ -164,14 +184,16 @@ module _ {D : Type 0} (honest : D → Type 0) (moment : D → ℕ) (left : D →
         (λ _. k.none) k.fares.was_honest (k.fares.stays_honest stands) (λ h. k.fares.configured h stood) (λ ready. fares-any a b es (frames k.answered) k.fares ready) stands f
 
     pub carries-then : (es fs : List Event) (hs gs : List (List ℕ)) (l l' l'' w w' w'' : Frames) → length hs ≡ length es
-        → Carries honest moment left a b es hs l l' w w' → Carries honest moment left b c fs gs l' l'' w' w'' → Carries honest moment left a c (es ++ fs) (hs ++ gs) l l'' w w''
+        → (k : Carries honest moment left a b es hs l l' w w') → (j : Carries honest moment left b c fs gs l' l'' w' w'') → (all : Carries honest moment left a c (es ++ fs) (hs ++ gs) l l'' w w'') × (all.answered ≡ k.answered ++ j.answered)
     carries-then es fs hs gs l l' l'' w w' w'' long k j =
-        let long' : length hs ≡ length k.answered = long ∙ sym (answered_long a.told b.told es k.answered k.took none k.none) in
-        record {
-          answered = k.answered ++ j.answered;
-          took = took-then a.told b.told c.told es fs k.answered j.answered k.took j.took;
-          none = j.none;
-          to_lan = rw (handed-then Lan hs gs k.answered j.answered long') (Hands-then l l' l'' _ _ k.to_lan j.to_lan);
-          to_wan = rw (handed-then Wan hs gs k.answered j.answered long') (Hands-then w w' w'' _ _ k.to_wan j.to_wan);
-          fares = rw (flat_map-append frame k.answered j.answered) (fares-behind es fs hs l l' w w' (frames j.answered) k j.fares);
-        }
+        let long' : length hs ≡ length k.answered = long ∙ sym (answered_long a.told b.told es k.answered k.took none k.none) in (
+          record {
+            answered = k.answered ++ j.answered;
+            took = took-then a.told b.told c.told es fs k.answered j.answered k.took j.took;
+            none = j.none;
+            to_lan = rw (handed-then Lan hs gs k.answered j.answered long') (Hands-then l l' l'' _ _ k.to_lan j.to_lan);
+            to_wan = rw (handed-then Wan hs gs k.answered j.answered long') (Hands-then w w' w'' _ _ k.to_wan j.to_wan);
+            fares = rw (flat_map-append frame k.answered j.answered) (fares-behind es fs hs l l' w w' (frames j.answered) k j.fares);
+          },
+          refl,
+        )

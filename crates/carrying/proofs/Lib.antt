@@ -5,6 +5,8 @@ mod Settled
 mod Joined
 mod Taken
 mod Stopping
+mod Prompt
+mod Unfaulty
 mod Going
 mod Lives
 mod Noted

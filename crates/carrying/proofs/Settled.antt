@@ -7,11 +7,11 @@ use Rattle.devices.specs.Handing.{Frames, Hands}
 use Rattle.from_devices.specs.Requests.{Gathered}
 use Rattle.machine.specs.declared.event.Event.{Event}
 use Rattle.frames.specs.Answers.{frames}
-use Rattle.frames.specs.Framing.{EventsAndRest, whole_frames}
+use Rattle.frames.specs.Framing.{EventsAndRest, Rest, whole_frames}
 use Rattle.frames.specs.Streams.{FitsFrame}
 use Rattle.gateway.specs.Kept.{Kept}
 use Rattle.gateway.specs.Told.{TookAll}
-use Rattle.socket_edge.specs.Running.{Answered, Fares, events_in}
+use Rattle.socket_edge.specs.Running.{Answered, Fares, events_in, remainder_of}
 use Rattle.to_devices.specs.Leaving.{leaving}
 use Rattle.to_devices.specs.Replies.{Reply, FitsReply, HasNoReply, reply_frame}
 use Rattle.to_devices.specs.Counting.{AreCounted}
@@ -25,6 +25,10 @@ use Rattle.carrying.proofs.Streamed.{Streams, turn_reads}
 
 pub events_are : (last : ℕ) (turn : Turn) (f : Gathered) (requests : List ℕ) → Streams last turn f → AllByRecursion FitsFrame (events_of last turn) → requests ≡ f.requests → events_in requests ≡ events_of last turn
 events_are last turn f requests s fit is = ap (λ (x : EventsAndRest). x.events) (ap whole_frames is ∙ turn_reads last turn f s fit)
+
+-- and nothing stands behind its frames
+pub rest_is : (last : ℕ) (turn : Turn) (f : Gathered) (requests : List ℕ) → Streams last turn f → AllByRecursion FitsFrame (events_of last turn) → requests ≡ f.requests → remainder_of requests ≡ Rest []
+rest_is last turn f requests s fit is = ap (λ (x : EventsAndRest). x.remainder) (ap whole_frames is ∙ turn_reads last turn f s fit)
 
 module _ {D : Type 0} (honest : D → Type 0) (moment : D → ℕ) (left : D → ℕ → Files → Type 0) (old new : Kept D) where
   pub carried : (last : ℕ) (turn : Turn) (f : Gathered) (requests sent : List ℕ) (headers : List (List ℕ)) (replies : List Reply) (rest : List ℕ) (l l' w w' : Frames)

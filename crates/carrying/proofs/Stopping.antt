@@ -24,7 +24,7 @@ use Rattle.to_devices.proofs.Letting.{Hands-then}
 use Rattle.carrying.specs.Carried.{Carries}
 use Rattle.carrying.specs.Runs.{AtEachTurn, ComesBy, HandsFirst, all_events, all_headers, last_of}
 use Rattle.carrying.specs.Turns.{Turn, events_of, headers_of}
-use Rattle.carrying.proofs.Joined.{all_long, answered_long, carries-then, events-then, headers-then}
+use Rattle.carrying.proofs.Joined.{all_long, answered_long, carries-as, carries-then, events-then, headers-then}
 use Rattle.carrying.proofs.Taken.{place_of}
 
 module _ {T : Type 0} where
@@ -163,25 +163,31 @@ module _ {D : Type 0} (honest : D → Type 0) (moment : D → ℕ) (left : D →
     )
 
   -- no turn yet
-  pub trail-first : (a : Kept D) (last : ℕ) (l w : Frames) → Carries honest moment left a a [] [] l l w w → Trail a a last [] l l w w
-  trail-first a last l w k = record {
-    carries = k;
-    stops = record {
-      by = λ (turns : List Turn). a;
-      first = refl;
-      last = refl;
-      each = λ before u after e. absurd (omega (arith, ap length e, length-append before (u ∷ after)));
-    };
-  }
+  pub trail-first : (a : Kept D) (last : ℕ) (l w : Frames) (k : Carries honest moment left a a [] [] l l w w) → (trail : Trail a a last [] l l w w) × (trail.carries.answered ≡ k.answered)
+  trail-first a last l w k = (
+    record {
+      carries = k;
+      stops = record {
+        by = λ (turns : List Turn). a;
+        first = refl;
+        last = refl;
+        each = λ before u after e. absurd (omega (arith, ap length e, length-append before (u ∷ after)));
+      };
+    },
+    refl,
+  )
 
   -- one more
   pub trail-then : (earlier : (disk : D) (s t : ℕ) (files : Files) → s ≤ t → left disk t files → left disk s files)
       → (a b c : Kept D) (last : ℕ) (turns : List Turn) (turn : Turn) (l l' l'' w w' w'' : Frames) → a.fallen ≡ false → b.fallen ≡ false → a.told.held ≡ []
-      → Trail a b last turns l l' w w' → Carries honest moment left b c (events_of (last_of last turns) turn) (headers_of (last_of last turns) turn) l' l'' w' w'' → Trail a c last (turns ++ turn ∷ []) l l'' w w''
+      → (t : Trail a b last turns l l' w w') → (j : Carries honest moment left b c (events_of (last_of last turns) turn) (headers_of (last_of last turns) turn) l' l'' w' w'') → (trail : Trail a c last (turns ++ turn ∷ []) l l'' w w'') × (trail.carries.answered ≡ t.carries.answered ++ j.answered)
   trail-then earlier a b c last turns turn l l' l'' w w' w'' stood stands none t j =
       let m = last_of last turns in
-      record {
-        carries = rw (events-then last turns turn, headers-then last turns turn)
-            (carries-then honest moment left earlier a b c stood stands none (all_events last turns) (events_of m turn) (all_headers last turns) (headers_of m turn) l l' l'' w w' w'' (all_long last turns) t.carries j);
-        stops = (stops-then a b c last turns turn l l' l'' w w' w'' _ _ t stands (frames j.answered) j.fares j.to_lan j.to_wan).0;
-      }
+      let all = carries-then honest moment left earlier a b c stood stands none (all_events last turns) (events_of m turn) (all_headers last turns) (headers_of m turn) l l' l'' w w' w'' (all_long last turns) t.carries j in
+      let same = carries-as honest moment left a c _ _ _ _ l l'' w w'' (sym (events-then last turns turn)) (sym (headers-then last turns turn)) all.0 in (
+        record {
+          carries = same.0;
+          stops = (stops-then a b c last turns turn l l' l'' w w' w'' _ _ t stands (frames j.answered) j.fares j.to_lan j.to_wan).0;
+        },
+        same.1 ∙ all.1,
+      )

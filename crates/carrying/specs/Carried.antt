@@ -1,5 +1,5 @@
 -- What goes out.
-use Rattle.std.specs.Prelude.{◌≡◌, ℕ, ◌==◌, List, [], ◌∷◌, ◌++◌, drop, get_or, if◌then◌else◌, Result, Ok, Err}
+use Rattle.std.specs.Prelude.{◌≡◌, ◌≢◌, ℕ, ◌==◌, List, [], ◌∷◌, ◌++◌, drop, get_or, if◌then◌else◌, Result, Ok, Err}
 use Rattle.disk_model.specs.Disk.{Files}
 use Rattle.packet.specs.declared.endpoint.Iface.{Iface}
 use Rattle.packet.specs.declared.endpoint.Iface.TheVariants.{Lan, Wan}
@@ -7,10 +7,12 @@ use Rattle.devices.specs.Handing.{Frames, Hands}
 use Rattle.frames.specs.Answers.{frames, iface_byte}
 use Rattle.gateway.specs.Kept.{Kept}
 use Rattle.gateway.specs.Told.{TookAll}
+use Rattle.gateway.specs.declared.fault.GatewayFault.TheVariants.{Full, HeldFull, Reopen}
 use Rattle.machine.specs.declared.event.Answer.{Answer}
 use Rattle.machine.specs.declared.event.Answer.TheVariants as answer
 use Rattle.machine.specs.declared.event.Event.{Event}
 use Rattle.socket_edge.specs.declared.fault.EdgeFault.{EdgeFault}
+use Rattle.socket_edge.specs.declared.fault.EdgeFault.TheVariants.{BadKind, BadInterface, TooLong, Truncated, Input, Output, Gateway}
 use Rattle.socket_edge.specs.Running.{Fares}
 use Rattle.to_devices.specs.Leaving.{released}
 use Rattle.carrying.specs.Turns.{no_header}
@@ -54,3 +56,14 @@ module _ {D : Type 0} (honest : D → Type 0) (moment : D → ℕ) (left : D →
       → Frames → Frames → Frames → Frames → Type 0
   Turned (Ok done) events headers lan lan' wan wan' = Carries events headers lan lan' wan wan'
   Turned (Err fault) events headers lan lan' wan wan' = Fails events lan lan' wan wan'
+
+-- By such a fault a turn may fail: never by one of a frame, as its requests are whole and none is faulty; and of the
+-- gateway's by none that says that it had fallen before, or that it has no room.
+abbrev pub IsOfTurn : EdgeFault → Type 0
+IsOfTurn BadKind = ⊥
+IsOfTurn BadInterface = ⊥
+IsOfTurn TooLong = ⊥
+IsOfTurn Truncated = ⊥
+IsOfTurn Input = Unit {0}
+IsOfTurn Output = Unit {0}
+IsOfTurn (Gateway fault) = (fault ≢ Reopen) × (fault ≢ HeldFull) × (fault ≢ Full)

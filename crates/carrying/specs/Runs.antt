@@ -1,9 +1,9 @@
 -- Turns one after the other.
-use Rattle.std.specs.Prelude.{◌≡◌, ◌⊎◌, ℕ, ◌+◌, ◌-◌, ◌^◌, List, [], ◌∷◌, ◌++◌, length, map, Result, Ok, Err}
+use Rattle.std.specs.Prelude.{◌≡◌, ◌⊎◌, ℕ, ◌+◌, ◌-◌, ◌^◌, List, [], ◌∷◌, ◌++◌, length, map, take, Option, Result, Ok, Err}
 use Rattle.std.specs.List.{flat_map}
 use Rattle.disk_model.specs.Disk.{Files, LeavesOnly}
 use Rattle.packet.specs.declared.endpoint.Iface.TheVariants.{Lan, Wan}
-use Rattle.devices.specs.Handing.{Frames, Gives, Hands}
+use Rattle.devices.specs.Handing.{Frames, Gives, Hands, Waits}
 use Rattle.durable.specs.Recovery.{IsConfigured}
 use Rattle.frames.specs.Answers.{frames}
 use Rattle.gateway.specs.Kept.{Kept, IsAtRest, IsSafe}
@@ -17,6 +17,7 @@ use Rattle.socket_edge.specs.Progress.{Reached, replies}
 use Rattle.socket_edge.specs.Running.{Fares}
 use Rattle.carrying.specs.Asking.{Asked, Asks, AsksFor, IsOver}
 use Rattle.carrying.specs.Carried.{handed_to}
+use Rattle.carrying.specs.declared.between.Between.{Between}
 use Rattle.carrying.specs.Turns.{TakesAll, Turn, events_of, headers_of}
 
 -- the latest moment behind turns
@@ -50,6 +51,34 @@ EachTakesAll last lan_gave_all wan_gave_all turns = (before after : List Turn) (
     → turns ≡ before ++ turn ∷ after
     → TakesAll (last_of last before) turn (lan_gave_all (length before + 1) (from_lan before ++ turn.lan))
     (wan_gave_all (length before + 1) (from_wan before ++ turn.wan))
+
+module _ {L W : Type 0} (lan_coming lan_handed : L → Frames) (lan_waited : L → Option ℕ)
+    (wan_coming wan_handed : W → Frames) (wan_waited : W → Option ℕ) (old : Between L W) where
+  -- There was one moment at which both devices had been waited for so often since `old`, had given these packets, had
+  -- been handed those, and no more of either.
+  pub record Stood (often : ℕ) (lan wan to_lan to_wan : List (List ℕ)) : Type 0 where
+    pub devices : Between L W
+    pub gave_lan : Gives (lan_coming old.lan) (lan_coming devices.lan) lan
+    pub gave_wan : Gives (wan_coming old.wan) (wan_coming devices.wan) wan
+    pub handed_lan : Hands (lan_handed old.lan) (lan_handed devices.lan) to_lan
+    pub handed_wan : Hands (wan_handed old.wan) (wan_handed devices.wan) to_wan
+    pub lan_waits : Waits often (lan_waited old.lan) (lan_waited devices.lan)
+    pub wan_waits : Waits often (wan_waited old.wan) (wan_waited devices.wan)
+
+-- Of such a moment `stood` says: behind just so many waits as there were turns, the devices had given what came in the
+-- turns, and had been handed what the answers to the events of these say.
+abbrev pub HandsOn : ℕ → (ℕ → List (List ℕ) → List (List ℕ) → List (List ℕ) → List (List ℕ) → Type 0)
+    → List Turn → List (ℕ × Answer) → Type 0
+HandsOn last stood turns answered = stood (length turns) (from_lan turns) (from_wan turns)
+    (handed_to Lan (all_headers last turns) answered) (handed_to Wan (all_headers last turns) answered)
+
+-- Such a moment was behind each turn: its packets were handed on before the next turn was waited for, and before any
+-- packet of that was taken. The answers so far are the first, one for each event.
+abbrev pub EachHandsOn : ℕ
+    → (ℕ → List (List ℕ) → List (List ℕ) → List (List ℕ) → List (List ℕ) → Type 0)
+    → List Turn → List (ℕ × Answer) → Type 0
+EachHandsOn last stood turns answered = (before after : List Turn) → turns ≡ before ++ after
+    → HandsOn last stood before (take (length (all_events last before)) answered)
 
 -- A run that ended well did so as nothing more was asked for, or behind as many turns as there can be. In any other one
 -- a turn failed, the last one.

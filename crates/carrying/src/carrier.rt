@@ -1,14 +1,14 @@
 //! A turn: what the devices give is answered, and what leaves is handed to them.
-ghost use Rattle.std.specs.Prelude.{◌≡◌, ◌≤◌, ◌<◌, ◌^◌, ◌++◌, ℕ, List, [], None, Some, IfOk, IfErr, IfNone, IfSome, MatchOption, OnOk, false, length};
+ghost use Rattle.std.specs.Prelude.{◌≡◌, ◌≢◌, ◌≤◌, ◌<◌, ◌^◌, ◌++◌, ℕ, List, [], None, Some, IfOk, IfErr, IfNone, IfSome, MatchOption, OnOk, false, length};
 ghost use Rattle.devices.specs.Handing.{GaveAll};
 ghost use Rattle.from_devices.specs.Requests.{begun, with_load};
 ghost use Rattle.machine.specs.Machine.{later};
-ghost use Rattle.socket_edge.specs.Running.{Answered, Explains, Fares, events_in};
+ghost use Rattle.socket_edge.specs.Running.{Answered, EndsBy, Explains, Fares, events_in};
 ghost use Rattle.to_devices.specs.Counting.{no_counts};
 ghost use Rattle.carrying.specs.Asking.{text_of};
-ghost use Rattle.carrying.specs.Carried.{Turned};
+ghost use Rattle.carrying.specs.Carried.{IsOfTurn, Turned};
 ghost use Rattle.carrying.specs.Counted.{before_wan, CountsIfOk, CountsTurns};
-ghost use Rattle.carrying.specs.Runs.{EachTakesAll, Ran};
+ghost use Rattle.carrying.specs.Runs.{EachHandsOn, EachTakesAll, Ran, Stood};
 ghost use Rattle.carrying.specs.Turns.{Gave, TakesAll, Turn, events_of, gathered, headers_of};
 
 use crate::between::Between;
@@ -17,8 +17,8 @@ use crate::pace::{Beat, Pace};
 use devices::Device;
 use disk_model::Disk;
 use from_devices::FromDevices;
-use gateway::Gateway;
 use gateway::running::stands;
+use gateway::{Gateway, GatewayFault};
 use packet::Iface;
 use socket_edge::EdgeFault;
 use std::alloc::{AllocError, Global};
@@ -108,6 +108,11 @@ fn answer<D: Disk + Drop>(
         × OnOk result ((rest ≡ []) × Answered gateway.old.told gateway.new.told given to.new) }
     ensures why { gateway.old.fallen ≡ false
         → IfErr result (λ e. Explains D.honest D.moment D.left D.failed e gateway.old gateway.new) }
+    ensures ended { IfErr result (λ e. (given rest : List ℕ) × (requests.now ≡ given ++ rest)
+        × EndsBy e gateway.old.told gateway.new.told given to.new (rest ≡ [])) }
+    ensures causes { gateway.old.fallen ≡ false
+        → IfErr result (λ e. (e ≢ EdgeFault.Gateway GatewayFault.Reopen)
+        × (e ≢ EdgeFault.Gateway GatewayFault.HeldFull) × (e ≢ EdgeFault.Gateway GatewayFault.Full)) }
     ensures stands { OnOk result (gateway.new.fallen ≡ false) }
     ensures no_failure { OnOk result (D.failed gateway.new.disk ≡ D.failed gateway.old.disk) }
     ensures short { length to.new ≤ 1048576 }
@@ -160,7 +165,8 @@ impl Carrier {
     ///
     /// # Errors
     ///
-    /// The gateway's own fault, as `socket_edge::run` has it. Then nothing is handed on, and what was taken is lost.
+    /// The gateway's own fault, as `socket_edge::run` has it, and never one of a frame. Then nothing is handed on, and
+    /// what was taken is lost.
     pub fn turn<L: Device, W: Device, D: Disk + Drop>(
         &mut self,
         moment: u64,
@@ -193,6 +199,7 @@ impl Carrier {
         ensures no_failure { OnOk result (D.failed gateway.new.disk ≡ D.failed gateway.old.disk) }
         ensures why { IfErr result (λ e. Explains D.honest D.moment D.left D.failed e gateway.old
             gateway.new) }
+        ensures causes { IfErr result IsOfTurn }
     {
         let wan_from = gather(&mut self.from, moment, text, devices);
         self.to.clear();
@@ -236,6 +243,7 @@ impl Carrier {
         ensures no_failure { OnOk result (D.failed gateway.new.disk ≡ D.failed gateway.old.disk) }
         ensures why { IfErr result (λ e. Explains D.honest D.moment D.left D.failed e gateway.old
             gateway.new) }
+        ensures causes { IfErr result IsOfTurn }
     {
         match &beat.text {
             Some(text) => self.turn(beat.moment, Some(text.as_slice()), devices, gateway),
@@ -243,12 +251,13 @@ impl Carrier {
         }
     }
 
-    /// The turns that the pace asks for, one after the other, each when it is to be, until none is asked for. If this
-    /// is stopped in its midst, no event of the turns before is lost.
+    /// The turns that the pace asks for, one after the other, each when it is to be, until none is asked for. The packets
+    /// of a turn are handed on before the next one is waited for. If this is stopped in its midst, no event of the turns
+    /// before is lost.
     ///
     /// # Errors
     ///
-    /// The gateway's own fault. Of the turn in which it came nothing is handed on.
+    /// Those of `turn`. Of the turn in which it came nothing is handed on.
     pub fn carry<L: Device, W: Device, P: Pace<L, W>, D: Disk + Drop>(
         &mut self,
         pace: &mut P,
@@ -258,8 +267,8 @@ impl Carrier {
         requires stands { gateway.old.fallen ≡ false }
         requires none { gateway.old.told.held ≡ [] }
         // By which turns it went, all that came from the devices in them, and all that went to these; what a stop
-        // leaves, also one in the midst; why the last turn failed, if one did; that each took what the devices had; and
-        // that the answers of each that didn't fail were counted.
+        // leaves, also one in the midst; why the last turn failed, if one did; that each took what the devices had; that
+        // the answers of each that didn't fail were counted; and that what left in it was handed on in it.
         ensures ran { (run : Ran D.honest D.moment D.left gateway.old gateway.new result self.old.told
             (P.asks pace.old) (P.asks pace.new)
             (L.coming devices.old.lan) (L.coming devices.new.lan)
@@ -271,7 +280,11 @@ impl Carrier {
             (GaveAll L.coming L.waited L.has_none devices.old.lan)
             (GaveAll W.coming W.waited W.has_none devices.old.wan) (run.turns ++ run.failed)
             × CountsTurns self.old.told run.turns gateway.old.told run.settled.told
-            self.old.counts self.new.counts }
+            self.old.counts self.new.counts
+            × EachHandsOn self.old.told
+            (Stood L.coming L.handed L.waited W.coming W.handed W.waited devices.old)
+            run.turns run.answered }
+        ensures causes { IfErr result IsOfTurn }
         ensures stands { OnOk result (gateway.new.fallen ≡ false) }
         ensures no_failure { OnOk result (D.failed gateway.new.disk ≡ D.failed gateway.old.disk) }
     {

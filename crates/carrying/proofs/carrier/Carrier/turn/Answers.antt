@@ -8,8 +8,9 @@ use Rattle.to_devices.specs.Counting.{AreCounted}
 use Rattle.socket_edge.specs.Running.{Answered, Fares, events_in}
 use Rattle.carrying.specs.Counted.{Carrying}
 use Rattle.carrying.specs.Turns.{events_of}
-use Rattle.carrying.proofs.Settled.{carried, counted, failed}
+use Rattle.carrying.proofs.Settled.{carried, counted, failed, rest_is}
 use Rattle.carrying.proofs.Streamed.{Streams, streams, text_short, turn_fits}
+use Rattle.carrying.proofs.Unfaulty.{of_turn}
 use Rattle.carrying.proofs.carrier.Carrier.turn.Goals as goal
 
 pub returns-in-Err-clause-turned : goal.returns-in-Err-clause-turned
@@ -34,6 +35,18 @@ returns-in-Err-clause-turned g c =
       rw (← view) p.5,
       were,
     )
+
+pub returns-in-Err-clause-causes : goal.returns-in-Err-clause-causes
+returns-in-Err-clause-causes g c =
+    let p = c.gather-wan_from.ensures.gave in
+    let turn = p.0 in
+    let old = c.self.inside.from in
+    let s : Streams old.told turn c.gather-wan_from.new.from = subst (λ (x : Gathered). Streams old.told turn x) (sym p.4) (streams turn old) in
+    let soon : turn.moment < 2 ^ 64 = subst (λ (m : ℕ). m < 2 ^ 64) (sym p.1) c.ranges.moment.fits in
+    let fits : later old.told turn.moment < 2 ^ 64 = subst (λ (m : ℕ). later old.told m < 2 ^ 64) (sym p.1) c.gather-wan_from.ensures.fits in
+    let fit : AllByRecursion FitsFrame (events_of old.told turn) = turn_fits old.told turn soon fits (text_short c.args.text turn.text c.requires.short p.2) p.3.lan_packets p.3.wan_packets in
+    let e = c.in-Err.ensures.ended in
+    of_turn c.requests.result.now e.0 e.1 e.2 (rest_is old.told turn c.gather-wan_from.new.from c.requests.result.now s fit c.requests.ensures) c.in-Err.fault c.args.gateway.now.told c.answer.new.gateway.told c.answer.new.to e.3 (c.in-Err.ensures.causes c.requires.stands)
 
 pub returns-clause-turned : goal.returns-clause-turned
 returns-clause-turned g c =
