@@ -7,16 +7,29 @@ use Rattle.durable.specs.Entering.{Durable}
 use Rattle.durable.specs.Recovery.{Alike, IsConfigured, Recovers}
 use Rattle.machine.specs.Noted.{IsResumed}
 use Rattle.gateway.specs.Kept.{Kept, IsAtRest}
-use Rattle.gateway.specs.Lives.{AreLives, Course, IsLife, Life, LivesLeave, Refused, Stopped}
+use Rattle.gateway.specs.Lives.{AreLives, BothMayBecome, Course, IsLife, Life, NextFinds, Refused, Stopped}
 use Rattle.gateway.specs.Living.{RestsInLife}
 use Rattle.gateway.specs.declared.fault.GatewayFault.{GatewayFault}
+use Rattle.gateway.proofs.Becoming.{active-back}
 use Rattle.gateway.proofs.Lives.{lives-are}
 use Rattle.gateway.proofs.Taking.{took_none}
 use Rattle.snapshot.specs.declared.fault.OpenFault.{OpenFault}
-use Rattle.commands.specs.Causes.{AnewHasCause}
+use Rattle.commands.specs.Causes.{AnewHasCause, IsLastCurrent}
 use Rattle.commands.specs.Lives.{TellsBehind}
 use Rattle.commands.specs.declared.opening.AnewFault.{AnewFault}
 use Rattle.commands.specs.declared.opening.AnewFault.TheVariants.{Making, Opening}
+
+-- the last generation was there before
+current-before : (before files : Files) (d : Durable) → BothMayBecome before files → Recovers before d → IsLastCurrent files → IsLastCurrent before
+current-before before files d may stood last = record {
+  file = last.file;
+  heading = last.heading;
+  durable = last.durable;
+  end = last.end;
+  active = active-back before files may d stood last.file last.heading last.durable last.end last.active;
+  current = last.current;
+  last = last.last;
+}
 
 module _ {D : Type 0} (honest : D → Type 0) (moment : D → ℕ) (left : D → ℕ → Files → Type 0) (seen : D → Files) (failed : D → ℕ) (config : Config) (entry : D) (at : ℕ) where
   abbrev Live : Course D → Type 0
@@ -59,12 +72,16 @@ module _ {D : Type 0} (honest : D → Type 0) (moment : D → ℕ) (left : D →
       }
 
   module _ (reads : (disk : D) → honest disk → left disk (moment disk) (seen disk)) (h : honest entry) (first : Durable) (earlier : List (Life D)) (are : AreLives honest moment left seen config first earlier)
-      (before : LeavesNow moment left entry (LivesLeave honest moment left seen config first earlier)) where
+      (before : LeavesNow moment left entry (NextFinds honest moment left seen config first earlier)) where
     tells : (new : D) (why : AnewFault) → Live (Stopped new) → AnewHasCause honest moment left seen failed config entry new why → TellsBehind honest moment left seen config first earlier why
     tells new (Opening fault) stopped cause =
         let life : Life D = record { disk = entry; opened_at = at; course = Refused new fault } in
         (lives-are honest moment left seen reads config).each first life earlier (refused-by new (Opening fault) fault stopped cause refl h, before, are)
-    tells new (Making fault) stopped cause = λ is. (seen entry, before (seen entry) (reads entry h), cause.generations h is)
+    tells new (Making fault) stopped cause = λ is.
+        let all = lives-are honest moment left seen reads config in
+        let was = before (seen entry) (reads entry h) in
+        let stood = all.stood first earlier was.0 are (all.as_left first earlier was.0 was.1) in
+        (was.0, was.1, current-before was.0 (seen entry) stood.0 was.2 stood.1 (cause.generations h is))
 
     pub over-tells : (r : Result (Kept D) (D × AnewFault)) → MatchResult r (λ g. Live (Stopped g.disk)) (λ e. Live (Stopped e.0))
         → IfErr r (λ e. AnewHasCause honest moment left seen failed config entry e.0 e.1)

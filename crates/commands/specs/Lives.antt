@@ -23,7 +23,7 @@ use Rattle.commands.specs.declared.opening.AnewFault.TheVariants.{Making, Openin
 
 module _ {D : Type 0} (honest : D → Type 0) (moment : D → ℕ) (by_crash : D → ℕ → Files → Type 0)
     (seen : D → Files) (config : Config) where
-  -- What an opening may tell behind these lives, of files that they may have left: neither damage nor another
+  -- What an opening may tell behind these lives, of files that it may find then: neither damage nor another
   -- configuration; and that the generations are used up only if they may have left such files.
   abbrev pub TellsBehind : Durable → List (Life D) → AnewFault → Type 0
   TellsBehind first earlier (Opening fault) =

@@ -3,7 +3,7 @@
 ghost use Rattle.std.specs.Prelude.{◌≡◌, [], List, IfErr, IfOk, MatchResult};
 ghost use Rattle.disk_model.specs.Disk.{LeavesNow};
 ghost use Rattle.durable.specs.Entering.{Durable};
-ghost use Rattle.gateway.specs.Lives.{AreLives, IsLife, Life, LivesLeave, Refused, Stopped};
+ghost use Rattle.gateway.specs.Lives.{AreLives, IsLife, Life, NextFinds, Refused, Stopped};
 ghost use Rattle.gateway.specs.Living.{RestsInLife};
 ghost use Rattle.snapshot.specs.declared.fault.OpenFault.{OpenFault};
 ghost use Rattle.commands.specs.Lives.{TellsBehind, UnseenVisitsAreLives, VisitsAreLives};
@@ -41,7 +41,7 @@ pub fn open_over_in_lives<D: Disk + Drop>(
     ensures behind { D.honest disk → (first : Durable) (earlier : List (Life D))
         → AreLives D.honest D.moment D.left D.seen bounds first earlier
         → LeavesNow D.moment D.left disk
-        (LivesLeave D.honest D.moment D.left D.seen bounds first earlier)
+        (NextFinds D.honest D.moment D.left D.seen bounds first earlier)
         → IfErr result (λ e. TellsBehind D.honest D.moment D.left D.seen bounds first earlier e.1) }
 {
     open_over(alloc, disk, bounds, moment)

@@ -6,6 +6,8 @@ pub mod Filed
 pub mod Space
 -- What an opening makes of a file.
 pub mod Prepared
+-- What becomes of two files by openings.
+pub mod Becoming
 -- What an opening asks of a directory.
 pub mod Opening
 -- What was answered, without the error of the system.

@@ -1,5 +1,5 @@
 -- What an opening makes of the bytes of a file.
-use Rattle.std.specs.Prelude.{◌≡◌, ◌<◌, ◌⊎◌, ℕ, List, [], ◌∷◌, get_or, length, replicate}
+use Rattle.std.specs.Prelude.{◌≡◌, ◌<◌, ◌⊎◌, ℕ, List, [], ◌∷◌, ◌++◌, get_or, length, replicate}
 use Rattle.file_disk.specs.OneFile.{NoMore}
 
 -- an empty file becomes so many zeros, and a file that has bytes keeps them all
@@ -11,11 +11,15 @@ prepared room (x ∷ more) = x ∷ more
 abbrev pub IsOpen : List ℕ → Type 0
 IsOpen bytes = get_or bytes 0 0 ≡ 1
 
+-- these bytes, perhaps with more behind them
+abbrev pub IsLonger : List ℕ → List ℕ → Type 0
+IsLonger old new = (more : List ℕ) × (new ≡ old ++ more)
+
 module _ {F : Type 0} (honest : F → Type 0) (holds : F → List ℕ) (leaves : F → List ℕ → Type 0) where
-  -- a crash leaves an open gate only if it could before
+  -- a crash leaves an open gate only if it could before, and with all bytes that stood there then
   abbrev pub OpensNone : F → F → Type 0
   OpensNone old new = (bytes : List ℕ) → leaves new bytes → IsOpen bytes
-      → (before : List ℕ) × leaves old before × IsOpen before
+      → (before : List ℕ) × leaves old before × IsOpen before × IsLonger before bytes
 
   -- what a crash leaves is what a read gives
   abbrev pub IsSynced : F → Type 0

@@ -6,6 +6,7 @@
 //! - `preparing`: an empty file is made long, and a file that was opened is synced.
 //! - `directory`: the trait `Directory`, and both of its files opened.
 //! - `held_file`, `opening`: the files and the directories of the system.
+//! - `laws`: what becomes of the bytes of files that are opened.
 //!
 //! `FileDisk` counts a call, `TwoFiles` makes it of one of the files, under the same name, and `DiskFile` does it as
 //! `length`, `read_fully`, `write_fully` or `sync_file`, in full or with a failure.
@@ -22,6 +23,7 @@ mod directory;
 mod disk;
 mod file;
 mod held_file;
+pub mod laws;
 mod opening;
 mod preparing;
 mod two_files;

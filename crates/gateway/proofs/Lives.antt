@@ -10,7 +10,9 @@ use Rattle.durable.specs.Recovery.{IsActive, IsConfigured, NoneOpen, Recovers}
 use Rattle.durable.proofs.Headed.{headed_open, recovers_once}
 use Rattle.machine.specs.Machine.{after}
 use Rattle.machine.specs.Noted.{IsResumed, lasting}
-use Rattle.gateway.specs.Lives.{Life, Work, Course, Stopped, Refused, Opened, LivesLead, LifeLeaves, LivesLeave, OpeningKeeps, WorkGoes, CourseGoes, AreLives, IsAsModel, LivesAreTheModels, GoesOnAfterAStop, opened}
+use Rattle.snapshot.specs.Store.{IsLastFormer}
+use Rattle.gateway.proofs.Becoming.{active-back, configured-on, recovers-on, stays}
+use Rattle.gateway.specs.Lives.{BothMayBecome, NextFinds, Life, Work, Course, Stopped, Refused, Opened, LivesLead, LifeLeaves, LivesLeave, OpeningKeeps, WorkGoes, CourseGoes, AreLives, IsAsModel, LivesAreTheModels, GoesOnAfterAStop, opened}
 
 module _ {D : Type 0} (honest : D → Type 0) (moment : D → ℕ) (left : D → ℕ → Files → Type 0) (seen : D → Files)
     (reads : (disk : D) → honest disk → left disk (moment disk) (seen disk)) (config : Config) (first : Durable) where
@@ -21,6 +23,11 @@ module _ {D : Type 0} (honest : D → Type 0) (moment : D → ℕ) (left : D →
   -- and so does whatever a crash leaves of this disk
   abbrev pub AllStand : List (Life D) → D → Type 0
   AllStand lives disk = (files : Files) → left disk (moment disk) files → Stand lives files
+
+  -- what has become of files that stand for that stands for it too
+  carried : (lives : List (Life D)) (before files : Files) → BothMayBecome before files → Stand lives before → Stand lives files
+  carried lives before files may stood =
+      (stood.0, recovers-on before files may stood.0 stood.1, configured-on config before files may stood.0 stood.1 stood.2, stood.3)
 
   -- what an opening leaves that came to no gateway
   kept-on : (earlier : List (Life D)) (entry disk : D) → AllStand earlier entry → OpeningKeeps honest moment left seen config entry disk
@@ -67,16 +74,41 @@ module _ {D : Type 0} (honest : D → Type 0) (moment : D → ℕ) (left : D →
   pub all-stand : (lives : List (Life D)) (files : Files) → AreLives honest moment left seen config first lives → LivesLeave honest moment left seen config first lives files → Stand lives files
   all-stand [] files are was = (first, was.0, was.1, refl)
   all-stand (life ∷ earlier) files are was =
-      lived-on earlier life.disk life.opened_at life.course are.0.0 (λ fs now. all-stand earlier fs are.2 (are.1 fs now)) are.0.1 files was
+      lived-on earlier life.disk life.opened_at life.course are.0.0
+      (λ fs now. let found = are.1 fs now in carried earlier found.0 fs found.2 (all-stand earlier found.0 are.2 found.1)) are.0.1 files was
+
+  -- whatever is found after them
+  pub found-stands : (lives : List (Life D)) (files : Files) → AreLives honest moment left seen config first lives → NextFinds honest moment left seen config first lives files → Stand lives files
+  found-stands lives files are found = carried lives found.0 files found.2 (all-stand lives found.0 are found.1)
+
+  -- the last generation of a former version was there before
+  former-before : (before files : Files) (d : Durable) → BothMayBecome before files → Recovers before d → IsLastFormer config files → IsLastFormer config before
+  former-before before files d may stood last = record {
+    file = last.file;
+    heading = last.heading;
+    durable = last.durable;
+    end = last.end;
+    active = active-back before files may d stood last.file last.heading last.durable last.end last.active;
+    former = last.former;
+    configured = last.configured;
+    last = last.last;
+  }
 
   -- a life after these
-  pub is-as-model : (earlier : List (Life D)) (entry : D) (at : ℕ) (course : Course D) → honest entry → AllStand earlier entry → LivesLeave honest moment left seen config first earlier (seen entry)
+  pub is-as-model : (earlier : List (Life D)) (entry : D) (at : ℕ) (course : Course D) → honest entry → AreLives honest moment left seen config first earlier
+      → ((files : Files) → left entry (moment entry) files → NextFinds honest moment left seen config first earlier files)
       → CourseGoes honest moment left seen config entry at course → IsAsModel honest moment left seen config first earlier at course
-  is-as-model earlier entry at (Stopped disk) is_honest before was goes = tt
-  is-as-model earlier entry at (Refused disk fault) is_honest before was goes =
-      let stood = before (seen entry) (reads entry is_honest) in
-      (λ is. goes.1.damaged is stood.0 stood.1, λ is. goes.1.differs is stood.2, λ is. (seen entry, was, goes.1.generations is))
-  is-as-model earlier entry at (Opened work) is_honest before was goes = (begun-again earlier entry at work is_honest before goes, goes.answered)
+  is-as-model earlier entry at (Stopped disk) is_honest are over goes = tt
+  is-as-model earlier entry at (Refused disk fault) is_honest are over goes =
+      let was = over (seen entry) (reads entry is_honest) in
+      let stood = found-stands earlier (seen entry) are was in
+      let before = all-stand earlier was.0 are was.1 in (
+        λ is. goes.1.damaged is stood.0 stood.1,
+        λ is. goes.1.differs is stood.2,
+        λ is. (was.0, was.1, former-before was.0 (seen entry) before.0 was.2 before.1 (goes.1.generations is)),
+      )
+  is-as-model earlier entry at (Opened work) is_honest are over goes =
+      (begun-again earlier entry at work is_honest (λ fs now. found-stands earlier fs are (over fs now)) goes, goes.answered)
 
 -- nothing is stored yet
 new-files : (config : Config) (files : Files) → NoneOpen files → Recovers files empty × IsConfigured config files
@@ -97,11 +129,11 @@ found-files config files file h d end active is = (
 pub lives-are : {D : Type 0} (honest : D → Type 0) (moment : D → ℕ) (left : D → ℕ → Files → Type 0) (seen : D → Files)
     → ((disk : D) → honest disk → left disk (moment disk) (seen disk)) → (config : Config) → LivesAreTheModels honest moment left seen config
 lives-are honest moment left seen reads config = record {
-  each = λ first life earlier are. is-as-model honest moment left seen reads config first earlier life.disk life.opened_at life.course are.0.0
-      (λ fs now. all-stand honest moment left seen reads config first earlier fs are.2 (are.1 fs now)) (are.1 (seen life.disk) (reads life.disk are.0.0)) are.0.1;
+  each = λ first life earlier are. is-as-model honest moment left seen reads config first earlier life.disk life.opened_at life.course are.0.0 are.2 are.1 are.0.1;
+  as_left = λ first lives files was. (files, was, λ file. stays (files file));
   new = new-files config;
   found = found-files config;
-  stood = λ first lives files are was. all-stand honest moment left seen reads config first lives files are was;
+  stood = λ first lives files are was. found-stands honest moment left seen reads config first lives files are was;
 }
 
 -- a stop between two lives

@@ -14,5 +14,7 @@ pub mod Standing
 pub mod Running
 -- One life after another, each over what the one before may have left.
 pub mod Lives
+-- Which state a gateway begins with that is opened again.
+pub mod Restarts
 -- That the calls make such lives.
 pub mod Living

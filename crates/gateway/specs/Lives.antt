@@ -1,11 +1,11 @@
 -- One life of a gateway after another, each opened over two files that the one before may have left.
-use Rattle.std.specs.Prelude.{◌≡◌, ◌≢◌, ◌≤◌, ℕ, List, [], ◌∷◌, ◌++◌, length, take}
+use Rattle.std.specs.Prelude.{◌≡◌, ◌≢◌, ◌⊎◌, ◌≤◌, ℕ, List, [], ◌∷◌, ◌++◌, length, take}
 use Rattle.packet.specs.Config.{Config}
 use Rattle.disk_model.specs.Disk.{Files, Leaves, LeavesNow, LeavesOnly}
 use Rattle.disk_model.specs.declared.disk.FileId.{FileId}
 use Rattle.durable.specs.Coding.{Heading}
 use Rattle.durable.specs.Entering.{Durable, empty}
-use Rattle.durable.specs.Recovery.{Alike, IsActive, IsConfigured, NoneOpen, Recovers}
+use Rattle.durable.specs.Recovery.{Alike, IsActive, IsConfigured, IsOpen, NoneOpen, Recovers}
 use Rattle.machine.specs.Judged.{Judged, AreJudged}
 use Rattle.machine.specs.Machine.{State, after, answers, numbered}
 use Rattle.machine.specs.Noted.{IsResumed, lasting}
@@ -78,6 +78,19 @@ AnswersAsModel config work = AreJudged config work.events work.judged
     × ((more : List (ℕ × Answer))
     × (work.given ++ more ≡ numbered 0 (answers config work.start work.judged)))
 
+-- ---- what may become of two files before they are opened again
+
+-- What may become of a file's bytes: they are closed, and stay closed, whatever they are then; or they are open, and
+-- stay, perhaps with more behind them. So an empty file may get zeros. `file_disk::laws::openings_keep_files` says in
+-- the same words what an opening of files does to them.
+abbrev pub MayBecome : List ℕ → List ℕ → Type 0
+MayBecome old new = ((¬ IsOpen old) × (¬ IsOpen new))
+    ⊎ (IsOpen old × ((more : List ℕ) × (new ≡ old ++ more)))
+
+-- the same of each of two files
+abbrev pub BothMayBecome : Files → Files → Type 0
+BothMayBecome old new = (file : FileId) → MayBecome (old file) (new file)
+
 -- ---- what the clauses of the calls say of a life
 
 module _ {D : Type 0} (honest : D → Type 0) (moment : D → ℕ) (left : D → ℕ → Files → Type 0)
@@ -123,11 +136,16 @@ module _ {D : Type 0} (honest : D → Type 0) (moment : D → ℕ) (left : D →
   LivesLeave first [] files = Recovers files first × IsConfigured config files
   LivesLeave first (life ∷ earlier) files = LifeLeaves life.disk life.course files
 
-  -- Each was opened over a disk of which a crash leaves only what the lives before it may have left.
+  -- What the next opening may find after these lives: what they may have left, or what may have become of that.
+  abbrev pub NextFinds : Durable → List (Life D) → Files → Type 0
+  NextFinds first lives files = (before : Files) × LivesLeave first lives before
+      × BothMayBecome before files
+
+  -- Each was opened over a disk of which a crash leaves only what it may find after the lives before it.
   abbrev pub AreLives : Durable → List (Life D) → Type 0
   AreLives first [] = Unit {0}
   AreLives first (life ∷ earlier) = IsLife life
-      × LeavesNow moment left life.disk (LivesLeave first earlier) × AreLives first earlier
+      × LeavesNow moment left life.disk (NextFinds first earlier) × AreLives first earlier
 
   -- After the earlier lives, this is what the model says: an opening tells no damage and no other configuration, and a
   -- gateway begins again from what the earlier lives lead to, and answers as the model. `Generations` is told only if
@@ -145,15 +163,18 @@ module _ {D : Type 0} (honest : D → Type 0) (moment : D → ℕ) (left : D →
   -- ---- the theorem
 
   -- Of any lives, the latest first, with one configuration: each is as the model says after the earlier ones; and
-  -- whatever they may have left stands for what they lead to.
+  -- whatever the next opening may find stands for what they lead to.
   pub record LivesAreTheModels : Type 0 where
     pub each : (first : Durable) (life : Life D) (earlier : List (Life D))
         → AreLives first (life ∷ earlier)
         → IsAsModel first earlier life.opened_at life.course
     pub stood : (first : Durable) (lives : List (Life D)) (files : Files) → AreLives first lives
-        → LivesLeave first lives files
+        → NextFinds first lives files
         → (d : Durable) × Recovers files d × IsConfigured config files
         × LivesLead config first lives d
+    -- what lives left may be found as it is
+    pub as_left : (first : Durable) (lives : List (Life D)) (files : Files)
+        → LivesLeave first lives files → NextFinds first lives files
     -- over files of which none is open, empty ones too, the first life begins with no text and no session
     pub new : (files : Files) → NoneOpen files → LivesLeave empty [] files
     -- over an active file of this configuration, whatever its version, with what it holds

@@ -1,9 +1,10 @@
-//! What follows from the definitions of `specs/Standing`, `specs/Lives` and `specs/Living`: each function is proved to
-//! meet its clauses. The laws of every step are in `machine::laws`.
+//! What follows from the definitions of `specs/Standing`, `specs/Lives`, `specs/Restarts` and `specs/Living`: each
+//! function is proved to meet its clauses. The laws of every step are in `machine::laws`.
 //!
 //! - `calls_stand_for_the_model`: calls one by one, and what the files stand for between them
 //! - `lives_are_the_models`: gateways opened one after the other over the same files, each stopped at any moment
 //! - `goes_on_after_a_stop`: the plainest case of it
+//! - `restarts_keep_the_state`: which state a gateway begins with then
 //! - `open_in_lives`, `run_in_lives`, `offer_in_lives`, `take_packet_in_lives`, `take_event_in_lives`,
 //!   `flush_in_lives`, `settle_in_lives`, `compact_in_lives`: the calls of `Gateway`, each with the clauses that say
 //!   that it makes such lives
@@ -15,14 +16,17 @@ ghost use Rattle.machine.specs.declared.event.What.TheVariants.{Packet};
 ghost use Rattle.gateway.specs.Given.{answer_given, given_by, handed};
 ghost use Rattle.gateway.specs.Lives.{GoesOnAfterAStop, IsLife, LivesAreTheModels, Refused, Stopped};
 ghost use Rattle.gateway.specs.Living.{CallsAreLives, EndsLife, GoesOnInLife, RestsAgain, RestsInLife, RunsInLife, StaysInLife, StopsInLife, TakesInLife};
+ghost use Rattle.gateway.specs.Restarts.{RestartsKeepTheState};
 ghost use Rattle.gateway.specs.Standing.{CallsStandForTheModel};
 ghost use Rattle.gateway.specs.Taking.{IsNoPacket};
 
 use crate::calls::Gateway;
 use crate::{GatewayFault, Given, GivenInPlace, OpenFault};
 use disk_model::Disk;
+use machine::laws::runs_keep_sound;
 use machine::{Answer, Event, Iface};
 use packet::Bounds;
+use rulesyntax::one_ruleset;
 use std::alloc::Global;
 
 /// From a sound state, nothing held and files that stand for it: after any list of steps that are as `specs/Standing`
@@ -52,6 +56,17 @@ pub fn lives_are_the_models<D: Disk>(_: &D)
 pub fn goes_on_after_a_stop<D: Disk>(_: &D)
     ensures { (config : Config) → GoesOnAfterAStop D.honest D.moment D.left D.seen config }
 {}
+
+/// What is stored settles the state that a gateway begins with: the text, the rules that are in force, and the sessions,
+/// from which mappings, hosts and timers follow. Of a life of which something may survive, that is the state that the
+/// model has after some first of its events, every part as it was, but for the moments: each session is as if its last
+/// packet had passed as the gateway was opened, and the clock begins with that moment.
+pub fn restarts_keep_the_state()
+    ensures { RestartsKeepTheState }
+{
+    one_ruleset();
+    runs_keep_sound();
+}
 
 /// Opens a gateway (`Gateway::open`). Stopped within it, or refused by it, that is a life; else the gateway that it
 /// gives is in its life.
