@@ -1,5 +1,5 @@
 //! Reading the leading open groups of a file.
-ghost use Rattle.std.specs.Prelude.{◌≡◌, ◌+◌, ◌<◌, ◌≤◌, List, ℕ, length, get_or, IfOk, OnOk, IfSome, IsErrOf};
+ghost use Rattle.std.specs.Prelude.{◌≡◌, ◌+◌, ◌<◌, List, ℕ, length, get_or, IfOk, IfSome, IsErrOf};
 ghost use Rattle.byteorder.specs.Endian.{big_bytes};
 ghost use Rattle.disk_model.specs.Disk.{Looks, HasCause};
 ghost use Rattle.journal.specs.Groups.{Groups, GroupsOnce, IsRead, IsBrokenAt, bodies_of};
