@@ -25,7 +25,8 @@ ghost use Rattle.machine.specs.declared.event.What.TheVariants.{Packet};
 ghost use Rattle.gateway.specs.Given.{IsNow};
 ghost use Rattle.gateway.specs.Told.{Took, TookAll, TookFirst};
 ghost use Rattle.gateway.specs.Kept.{GroupsEndAt, IsAtRest, IsRoomy, IsSafe, IsTooMuch};
-ghost use Rattle.gateway.specs.Running.{StopsWithin};
+ghost use Rattle.machine.specs.declared.event.Answer.{Answer};
+ghost use Rattle.gateway.specs.Running.{BreaksOff, CarriesOn, SafeThrough, StopsWithin};
 ghost use Rattle.gateway.specs.Taking.{IsNoPacket, Refuses, TakesInPlace};
 
 use crate::fault::{why_not_compacted, why_refused};
@@ -735,6 +736,17 @@ impl<D: Disk + Drop> Gateway<D> {
         ensures within { self.old.fallen ≡ false
             → IfErr result (λ e. StopsWithin D.honest D.moment D.left D.failed self.old self.new
             events.items e.0.items e.1) }
+
+        // Whatever is held when it begins: any run that stood then, whose answers `before` were handed out, goes on to
+        // here, or ends here, with these answers handed out behind them; and none of `before` is lost meanwhile.
+        ensures carries { IfOk result (λ answers. (before : List (ℕ × Answer))
+            → CarriesOn D.honest D.moment D.left D.failed self.old self.new events.items before
+            (before ++ answers.items)) }
+        ensures breaks { self.old.fallen ≡ false → IfErr result (λ e. (before : List (ℕ × Answer))
+            → BreaksOff D.honest D.moment D.left D.failed self.old self.new events.items before
+            (before ++ e.0.items) e.1) }
+        ensures through { (before : List (ℕ × Answer))
+            → SafeThrough D.honest D.moment D.left D.failed self.old self.new events.items before }
         ensures configured { self.old.fallen ≡ false → D.honest self.old.disk
             → LeavesOnly D.moment D.left self.old.disk self.new.disk
             (IsConfigured self.old.told.config) }
