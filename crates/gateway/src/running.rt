@@ -10,7 +10,7 @@
 //! - `hand_out`: what is held is synced and handed out (`Gateway::flush`)
 //! - `settle`: what is held is synced, for those who have its answers (`Gateway::settle`)
 //! - `compact`: what is held is handed out, and the files are made short (`Gateway::compact`)
-ghost use Rattle.std.specs.Prelude.{◌≡◌, ◌≢◌, ◌↔◌, ◌+◌, ◌<◌, ◌≤◌, ◌++◌, ◌∷◌, [], ℕ, List, false, length};
+ghost use Rattle.std.specs.Prelude.{◌≡◌, ◌≢◌, ◌↔◌, ◌⊎◌, ◌+◌, ◌-◌, ◌^◌, ◌<◌, ◌≤◌, ◌++◌, ◌∷◌, [], ℕ, List, false, length};
 ghost use Rattle.std.specs.Prelude.{IfErr, IsTrue, OnErr, OnOk, true, vec_capacity, vec_len};
 ghost use Rattle.machine.specs.declared.event.Answer.{Answer};
 ghost use Rattle.gateway.specs.Kept.{IsRoomy};
@@ -90,6 +90,8 @@ pub fn take<D: Disk + Drop>(
         → SafeWithin D.honest D.moment D.left D.failed gateway.old gateway.new
         (before ++ answers.old.items) }
     ensures stands { OnOk result (gateway.new.fallen ≡ false) }
+    ensures numbers_out { gateway.old.told.last ≡ 2 ^ 64 - 1
+        → IfErr result (λ e. (e ≡ GatewayFault.NumbersOut) ⊎ (e ≡ GatewayFault.Device)) }
     ensures not_taken { OnErr result ((gateway.new.told.state ≡ gateway.old.told.state)
         × (gateway.new.told.last ≡ gateway.old.told.last)) }
     ensures room { vec_len answers.new + length gateway.new.told.held
@@ -211,6 +213,7 @@ fn flush_held_full<D: Disk + Drop>(
     ensures any_moment { (before : List (ℕ × Answer))
         → SafeWithin D.honest D.moment D.left D.failed gateway.old gateway.new
         (before ++ answers.old.items) }
+    ensures device { IfErr result (λ e. e ≡ GatewayFault.Device) }
     ensures stands { OnOk result (gateway.new.fallen ≡ false) }
     ensures state { gateway.new.told.state ≡ gateway.old.told.state }
     ensures last { gateway.new.told.last ≡ gateway.old.told.last }
@@ -316,6 +319,8 @@ fn offer<D: Disk + Drop>(
         → SafeWithin D.honest D.moment D.left D.failed gateway.old gateway.new
         (before ++ answers.old.items) }
     ensures full { IsRoomy gateway.old.filled → IfErr result (λ e. e.1 ≢ GatewayFault.Full) }
+    ensures numbers_out { gateway.old.told.last ≡ 2 ^ 64 - 1
+        → IfErr result (λ e. e.1 ≡ GatewayFault.NumbersOut) }
     ensures why { IfErr result (λ e. e.1 ≢ GatewayFault.Full → (before : List (ℕ × Answer))
         → BreaksOff D.honest D.moment D.left D.failed gateway.old gateway.new (event ∷ [])
         (before ++ answers.old.items) (before ++ answers.new.items) e.1) }
