@@ -18,6 +18,7 @@ use Rattle.snapshot.specs.Store.{IsLastFormer, RecoversEither}
 use Rattle.snapshot.specs.declared.fault.OpenFault.{OpenFault}
 use Rattle.snapshot.specs.declared.fault.OpenFault.TheVariants as open_fault
 use Rattle.gateway.specs.Kept.{Kept, IsAtRest, IsSafe}
+use Rattle.gateway.specs.Syncing.{end_of}
 use Rattle.gateway.specs.Told.{Told, TookAll, TookFirst}
 use Rattle.gateway.specs.Running.{Ends, Stands, StopsWithin}
 use Rattle.gateway.specs.declared.fault.GatewayFault.{GatewayFault}
@@ -358,19 +359,19 @@ module _ {D : Type 0} (honest : D → Type 0) (moment : D → ℕ) (left : D →
   -- a flush or a settlement that ended well
   module _ (was : honest new.disk → honest old.disk) (stays : new.fallen ≡ false → honest old.disk → honest new.disk) (conf : old.fallen ≡ false → honest old.disk → LeavesOnly moment left old.disk new.disk (IsConfigured old.told.config)) where
     module _ (any : old.fallen ≡ false → honest old.disk → (d : Durable) → Recovers (seen old.disk) d → LeavesOnly moment left old.disk new.disk (RecoversEither d (lasting old.told.state))) where
-      pub settled-in-life : {T : Type 0} (r : Result T GatewayFault) → (honest old.disk → OnOk r (LeavesNow moment left new.disk (λ files. Recovers files (lasting old.told.state))))
-          → OnOk r (new.told ≡ record old.told { held = [] }) → IsErrOf r fault.Device ↔ ((old.fallen ≡ false) × (new.fallen ≡ true)) → OnOk r (failed new.disk ≡ failed old.disk)
+      pub settled-in-life : {T : Type 0} (r : Result T GatewayFault) → (honest old.disk → OnOk (end_of r) (LeavesNow moment left new.disk (λ files. Recovers files (lasting old.told.state))))
+          → OnOk (end_of r) (new.told ≡ record old.told { held = [] }) → IsErrOf (end_of r) fault.Device ↔ ((old.fallen ≡ false) × (new.fallen ≡ true)) → OnOk (end_of r) (failed new.disk ≡ failed old.disk)
           → OnOk r (GoesOnInLife honest moment left seen failed old new old.told.held)
       settled-in-life (Err e) ok none fell no_failure = tt
       settled-in-life (Ok a) ok none fell no_failure = goes-on-in-life old.told.held (λ start events out s.
-          flushed honest moment left seen failed reads earlier start old events out s new was stays conf any ok none (stands-still a fault.Device new.fallen fell s.stands) no_failure)
+          flushed honest moment left seen failed reads earlier start old events out s new was stays conf any ok none (stands-still tt fault.Device new.fallen fell s.stands) no_failure)
 
       pub flushed-in-life : {T : Type 0} (r : Result T GatewayFault) (items : T → List (ℕ × Answer)) → IfOk r (λ a. items a ≡ old.told.held)
           → OnOk r (GoesOnInLife honest moment left seen failed old new old.told.held) → IfOk r (λ a. GoesOnInLife honest moment left seen failed old new (items a))
       flushed-in-life (Err e) items are on = tt
       flushed-in-life (Ok a) items are on = subst (λ (l : List (ℕ × Answer)). GoesOnInLife honest moment left seen failed old new l) (sym are) on
 
-      pub flush-ends : {T : Type 0} (r : Result T GatewayFault) → OnErr r (new.told ≡ old.told) → OnErr r (EndsLife honest moment left seen failed old new)
+      pub flush-ends : {T : Type 0} (r : Result T GatewayFault) → OnErr (end_of r) (new.told ≡ old.told) → OnErr r (EndsLife honest moment left seen failed old new)
       flush-ends (Ok a) same = tt
       flush-ends (Err e) same = ends-life (λ start events out s. flush-stopped honest moment left seen failed reads earlier start old events out s new was stays conf any same)
 

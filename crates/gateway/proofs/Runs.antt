@@ -25,7 +25,7 @@ use Rattle.gateway.specs.declared.fault.GatewayFault.TheVariants as fault
 use Rattle.gateway.proofs.Taking.{length-answers, took_more, took_none}
 use Rattle.gateway.specs.Given.{IsNow, handed}
 use Rattle.gateway.specs.Kept.{Kept, IsAtRest, IsSafe}
-use Rattle.gateway.specs.Running.{Ran, Stands, Ends, IsWhy, Stops, StopsWithin, CarriesOn, BreaksOff, SafeWithin, standing}
+use Rattle.gateway.specs.Running.{Ran, Stands, Ends, IsWhy, Stops, StopsWithin, CarriesOn, BreaksOff, SafeThrough, SafeWithin, standing}
 use Rattle.gateway.specs.Standing.{Standing, Offers, StandsFor}
 use Rattle.gateway.proofs.Standings.{offered-on, settled-on}
 
@@ -41,6 +41,9 @@ some-all P Q R S None p q r on = tt
 some-all P Q R S (Some x) p q r on = on x p q r
 
 -- ---- the events and their answers
+
+pub more-behind : {T : Type 0} (before xs ys : List T) → length xs ≤ length ys → length (before ++ xs) ≤ length (before ++ ys)
+more-behind before xs ys le = omega (arith, le, length-append before xs, length-append before ys)
 
 pub length-numbered : (last : ℕ) (xs : List Answer) → length (numbered last xs) ≡ length xs
 length-numbered last [] = refl
@@ -473,6 +476,13 @@ refused honest moment left failed start events out stands ends none =
     (record { front = []; back = events; split = refl; stops = record { ends = ends; is_why = memory-why honest moment left failed start start stands.stands stands.no_failure; stays = λ other. stands } })
 
 module _ {D : Type 0} (honest : D → Type 0) (moment : D → ℕ) (left : D → ℕ → Files → Type 0) (failed : D → ℕ) where
+  -- of no run before it
+  pub breaks-within : (now new : Kept D) (more : List Event) (out : List (ℕ × Answer)) (why : GatewayFault) → Stands honest moment left failed now now [] []
+      → BreaksOff honest moment left failed now new more [] out why → StopsWithin honest moment left failed now new more out why
+  breaks-within now new more out why begins breaks =
+      let off = breaks now [] begins in
+      record { front = off.0; back = off.1; split = off.2; stops = off.3 }
+
   -- through no events
   pub carries-none : (old new : Kept D) (before out : List (ℕ × Answer))
       → ((start : Kept D) (events : List Event) → Stands honest moment left failed start old events before → Stands honest moment left failed start new events out)
@@ -511,7 +521,43 @@ module _ {D : Type 0} (honest : D → Type 0) (moment : D → ℕ) (left : D →
       let is = off start events s in
       (is.0, is.1 ++ rest, ap (λ (es : List Event). es ++ rest) is.2 ∙ append_assoc is.0 is.1 rest, is.3)
 
+  -- behind others, and with more to come
+  pub breaks-last : (old mid new : Kept D) (all one call rest : List Event) (before between out : List (ℕ × Answer)) (why : GatewayFault) → all ≡ one ++ (call ++ rest)
+      → CarriesOn honest moment left failed old mid one before between → BreaksOff honest moment left failed mid new call between out why
+      → BreaksOff honest moment left failed old new all before out why
+  breaks-last old mid new all one call rest before between out why split first next =
+      subst (λ (es : List Event). BreaksOff honest moment left failed old new es before out why) (sym split)
+      (breaks-then old mid new one (call ++ rest) before between out why first (breaks-before mid new call rest between out why next))
+
+  -- within a call, with events that it may not take
+  pub within-through : (old new : Kept D) (more : List Event) (before : List (ℕ × Answer)) → SafeWithin honest moment left failed old new before
+      → SafeThrough honest moment left failed old new more before
+  within-through old new more before safe = λ start events s ready.
+      let both = safe start events s ready in (
+        narrows moment left old.disk new.disk (λ was files. IsSafe start.told.config start.told.state events (length before) files)
+            (λ was files. IsSafe start.told.config start.told.state (events ++ more) (length before) files) both.0
+            (λ was files then is. safe-less start.told.config start.told.state events more (length before) (length before) files (omega arith) is),
+        both.1,
+      )
+
   module _ (earlier : (disk : D) (s t : ℕ) (files : Files) → s ≤ t → left disk t files → left disk s files) where
+    -- calls that take events, and then others
+    pub through-then : (old mid new : Kept D) (one more : List Event) (before between : List (ℕ × Answer)) → SafeThrough honest moment left failed old mid one before
+        → CarriesOn honest moment left failed old mid one before between → length before ≤ length between → SafeThrough honest moment left failed mid new more between
+        → SafeThrough honest moment left failed old new (one ++ more) before
+    through-then old mid new one more before between first on le next = λ start events s ready.
+        let safe : List Event → ℕ → Files → Type 0 = IsSafe start.told.config start.told.state in
+        let all = append_assoc events one more in
+        let was = first start events s ready in
+        let then = next start (events ++ one) (on start events s) ready in (
+          only_then moment left old.disk mid.disk new.disk (safe (events ++ one) (length before)) (safe ((events ++ one) ++ more) (length between)) (safe (events ++ (one ++ more)) (length before))
+              (earlier mid.disk) was.0 then.0
+              (λ files is. subst (λ (es : List Event). safe es (length before) files) all (safe-less start.told.config start.told.state (events ++ one) more (length before) (length before) files (omega arith) is))
+              (λ files is. subst (λ (es : List Event). safe es (length before) files) all
+              (record { count = is.count; answered = omega (arith, le, is.answered); within = is.within; judged = is.judged; are_judged = is.are_judged; recovers = is.recovers })),
+          only_then moment left old.disk mid.disk new.disk (IsConfigured start.told.config) (IsConfigured start.told.config) (IsConfigured start.told.config) (earlier mid.disk) was.1 then.1 (λ files is. is) (λ files is. is),
+        )
+
     -- one call within which a run is safe, and then another
     pub within-then : (old mid new : Kept D) (before between : List (ℕ × Answer)) → SafeWithin honest moment left failed old mid before → CarriesOn honest moment left failed old mid [] before between
         → length before ≤ length between → SafeWithin honest moment left failed mid new between → SafeWithin honest moment left failed old new before

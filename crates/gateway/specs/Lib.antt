@@ -6,6 +6,8 @@ pub mod Told
 pub mod HeldAnswers
 -- What contracts see of a gateway.
 pub mod Kept
+-- What a sync of the answers that are held comes to.
+pub mod Syncing
 -- What an event that is taken does to a gateway, and why one isn't taken.
 pub mod Taking
 -- What the two files stand for between calls.

@@ -110,6 +110,15 @@ module _ {D : Type 0} (honest : D → Type 0) (moment : D → ℕ) (left : D →
       (IsSafe start.told.config start.told.state events (length before))
       × LeavesOnly moment left old.disk new.disk (IsConfigured start.told.config)
 
+  -- Nor does it within calls that take these events: then what a crash leaves may hold some of these too.
+  abbrev pub SafeThrough : List Event → List (ℕ × Answer) → Type 0
+  SafeThrough more before =
+      (start : Kept D) (events : List Event)
+      → Stands honest moment left failed start old events before → IsAtRest honest start
+      → LeavesOnly moment left old.disk new.disk
+      (IsSafe start.told.config start.told.state (events ++ more) (length before))
+      × LeavesOnly moment left old.disk new.disk (IsConfigured start.told.config)
+
   -- It takes these events, which are answered so. The answers that were held and then these are handed out or held, in
   -- order; if one is held still that was held before, none is handed out.
   pub record Proceeds (events : List Event) (answers : List (ℕ × Answer)) : Type 0 where

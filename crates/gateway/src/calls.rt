@@ -5,8 +5,8 @@
 //! - `offer`: `Core::step_noted` does the step and has `Pending` note its entries; `give` answers at once, or holds.
 //! - `take_packet`: as `offer`, by `Core::take_packet` and `give_copy`, for a packet where it lies.
 //! - `take_event`: so for a load or a moment, by `Core::step_noted` and `give_copy`.
-//! - `flush`: `Store::commit` syncs the group of `Pending`, and `Pending::release` hands out what was held.
-//! - `settle`: as `flush`, but `Pending::let_go` lets go what was held: its caller has it already.
+//! - `flush`: `Store::commit` syncs the group of `Pending`, and `Pending::release` gives what was held (`sync`).
+//! - `settle`: as `flush`, but what was held is let go: its caller has it already.
 //! - `compact`: `Store::compact` makes a file of what must survive (`lasting_sessions`), with no groups.
 //! - `run`: `running::take_all` does these calls for a list of events.
 ghost use Rattle.std.specs.Prelude.{◌≡◌, ◌≢◌, ◌↔◌, ◌⊎◌, ◌+◌, ◌-◌, ◌^◌, ◌<◌, ◌≤◌, ◌++◌, ◌∷◌, [], ℕ, List, IfOk, IfErr, IfNone, IfSome, OnOk, OnErr, OnSome, IsOk, IsErrOf, MatchResult, IsTrue, length, true, false};
@@ -23,9 +23,11 @@ ghost use Rattle.machine.specs.Noted.{AreEntriesOf, HasEntry, IsResumed, lasting
 ghost use Rattle.machine.specs.Sound.{IsSoundState};
 ghost use Rattle.machine.specs.declared.event.What.TheVariants.{Packet};
 ghost use Rattle.gateway.specs.Given.{IsNow};
+ghost use Rattle.gateway.specs.Syncing.{Syncs, end_of};
 ghost use Rattle.gateway.specs.Told.{Took, TookAll, TookFirst};
 ghost use Rattle.gateway.specs.Kept.{GroupsEndAt, IsAtRest, IsRoomy, IsSafe, IsTooMuch};
-ghost use Rattle.gateway.specs.Running.{StopsWithin};
+ghost use Rattle.machine.specs.declared.event.Answer.{Answer};
+ghost use Rattle.gateway.specs.Running.{BreaksOff, CarriesOn, SafeThrough, StopsWithin};
 ghost use Rattle.gateway.specs.Taking.{IsNoPacket, Refuses, TakesInPlace};
 
 use crate::fault::{why_not_compacted, why_refused};
@@ -516,44 +518,38 @@ impl<D: Disk + Drop> Gateway<D> {
     /// - `Reopen` exactly where a call of the disk has failed before. The disk stays.
     /// - `Device` where a call of the disk has failed, which is the last one made. The gateway has fallen.
     pub fn flush(&mut self) -> Result<Vec<(u64, Answer)>, GatewayFault>
-        ensures honest { D.honest self.new.disk → D.honest self.old.disk }
-        ensures stays_honest { self.new.fallen ≡ false
-            → D.honest self.old.disk → D.honest self.new.disk }
-
-        // A crash at any moment leaves the state that the files stood for, or the present one.
-        ensures any_moment { self.old.fallen ≡ false → D.honest self.old.disk → (durable : Durable)
-            → Recovers (D.seen self.old.disk) durable
-            → LeavesOnly D.moment D.left self.old.disk self.new.disk
-            (RecoversEither durable (lasting self.old.told.state)) }
-        ensures configured { self.old.fallen ≡ false → D.honest self.old.disk
-            → LeavesOnly D.moment D.left self.old.disk self.new.disk
-            (IsConfigured self.old.told.config) }
-        ensures ok { D.honest self.old.disk
-            → OnOk result (LeavesNow D.moment D.left self.new.disk
-            (λ files. Recovers files (lasting self.old.told.state))) }
-        ensures reads { D.honest self.old.disk
-            → OnOk result (Recovers (D.seen self.new.disk) (lasting self.old.told.state)) }
+        ensures synced { Syncs D.honest D.moment D.left D.seen D.called D.failed self.old self.new
+            (end_of result) }
         ensures answers { IfOk result (λ answers. answers.items ≡ self.old.told.held) }
-        ensures none { OnOk result (self.new.told ≡ record self.old.told { held = [] }) }
-        ensures generation { self.new.generation ≡ self.old.generation }
-        ensures err { OnErr result (self.new.told ≡ self.old.told) }
-        ensures reopen { IsErrOf result GatewayFault.Reopen ↔ (self.old.fallen ≡ true) }
-        ensures reopen_stays { IsErrOf result GatewayFault.Reopen → self.new ≡ self.old }
-        ensures fell { IsErrOf result GatewayFault.Device
-            ↔ ((self.old.fallen ≡ false) × (self.new.fallen ≡ true)) }
-        ensures causes { IfErr result (λ e. (e ≡ GatewayFault.Reopen) ⊎ (e ≡ GatewayFault.Device)) }
-        ensures device { IsErrOf result GatewayFault.Device
-            → Grew (D.failed self.old.disk) (D.failed self.new.disk) }
-        ensures by_one { D.failed self.new.disk ≤ D.failed self.old.disk + 1 }
-        ensures no_failure { OnOk result (D.failed self.new.disk ≡ D.failed self.old.disk) }
+    {
+        self.sync(true)
+    }
 
-        // The group that was written has 5 bytes beside its entries.
-        ensures filled { D.honest self.old.disk → self.old.told.held ≢ []
-            → OnOk result (self.new.filled ≡ self.old.filled + 5) }
-        ensures idle { self.old.told.held ≡ [] → (self.new.disk ≡ self.old.disk)
-            × (self.new.filled ≡ self.old.filled) }
-        ensures called { D.honest self.old.disk → self.old.told.held ≢ []
-            → OnOk result (Called 4 (D.called self.old.disk) (D.called self.new.disk)) }
+    /// As `flush`, for whoever has the held answers already, as `take_packet` told them: they are let go. It asks
+    /// that each answer that is held was told so.
+    ///
+    /// # Errors
+    ///
+    /// Those of `flush`. The answers stay held.
+    pub fn settle(&mut self) -> Result<(), GatewayFault>
+        requires in_place { self.old.in_place ≡ true }
+        ensures synced { Syncs D.honest D.moment D.left D.seen D.called D.failed self.old self.new
+            (end_of result) }
+        ensures in_place { self.new.in_place ≡ true }
+    {
+        match self.sync(false) {
+            Ok(_) => Ok(()),
+            Err(fault) => Err(fault),
+        }
+    }
+
+    // Syncs the group of what is held, and gives the answers, if they are wanted.
+    fn sync(&mut self, wanted: bool) -> Result<Vec<(u64, Answer)>, GatewayFault>
+        ensures synced { Syncs D.honest D.moment D.left D.seen D.called D.failed self.old self.new
+            (end_of result) }
+        ensures answers { wanted ≡ true → IfOk result (λ answers. answers.items
+            ≡ self.old.told.held) }
+        ensures in_place { self.old.in_place ≡ true → self.new.in_place ≡ true }
     {
         if self.store.has_fallen() {
             return Err(GatewayFault::Reopen);
@@ -564,72 +560,11 @@ impl<D: Disk + Drop> Gateway<D> {
         match self.store.commit(self.pending.group()) {
             Ok(()) => {
                 self.in_place = true;
-                Ok(self.pending.release(self.store.end()))
+                Ok(self.pending.release(self.store.end(), wanted))
             }
             Err(CommitFault::Device) => Err(GatewayFault::Device),
             // The group fits its file (`fits` of `Pending::group`).
             Err(CommitFault::Full) => unreachable!(),
-        }
-    }
-
-    /// As `flush`, for whoever has the held answers already, as `take_packet` told them: they are let go. It asks
-    /// that each answer that is held was told so. What else is said of `flush` is said of it, by the same clauses.
-    ///
-    /// # Errors
-    ///
-    /// Those of `flush`. The answers stay held.
-    pub fn settle(&mut self) -> Result<(), GatewayFault>
-        requires in_place { self.old.in_place ≡ true }
-        ensures honest { D.honest self.new.disk → D.honest self.old.disk }
-        ensures stays_honest { self.new.fallen ≡ false
-            → D.honest self.old.disk → D.honest self.new.disk }
-        ensures any_moment { self.old.fallen ≡ false → D.honest self.old.disk → (durable : Durable)
-            → Recovers (D.seen self.old.disk) durable
-            → LeavesOnly D.moment D.left self.old.disk self.new.disk
-            (RecoversEither durable (lasting self.old.told.state)) }
-        ensures configured { self.old.fallen ≡ false → D.honest self.old.disk
-            → LeavesOnly D.moment D.left self.old.disk self.new.disk
-            (IsConfigured self.old.told.config) }
-        ensures ok { D.honest self.old.disk
-            → OnOk result (LeavesNow D.moment D.left self.new.disk
-            (λ files. Recovers files (lasting self.old.told.state))) }
-        ensures reads { D.honest self.old.disk
-            → OnOk result (Recovers (D.seen self.new.disk) (lasting self.old.told.state)) }
-        ensures none { OnOk result (self.new.told ≡ record self.old.told { held = [] }) }
-        ensures in_place { self.new.in_place ≡ true }
-        ensures generation { self.new.generation ≡ self.old.generation }
-        ensures err { OnErr result (self.new.told ≡ self.old.told) }
-        ensures reopen { IsErrOf result GatewayFault.Reopen ↔ (self.old.fallen ≡ true) }
-        ensures reopen_stays { IsErrOf result GatewayFault.Reopen → self.new ≡ self.old }
-        ensures fell { IsErrOf result GatewayFault.Device
-            ↔ ((self.old.fallen ≡ false) × (self.new.fallen ≡ true)) }
-        ensures causes { IfErr result (λ e. (e ≡ GatewayFault.Reopen) ⊎ (e ≡ GatewayFault.Device)) }
-        ensures device { IsErrOf result GatewayFault.Device
-            → Grew (D.failed self.old.disk) (D.failed self.new.disk) }
-        ensures by_one { D.failed self.new.disk ≤ D.failed self.old.disk + 1 }
-        ensures no_failure { OnOk result (D.failed self.new.disk ≡ D.failed self.old.disk) }
-        ensures filled { D.honest self.old.disk → self.old.told.held ≢ []
-            → OnOk result (self.new.filled ≡ self.old.filled + 5) }
-        ensures idle { self.old.told.held ≡ [] → (self.new.disk ≡ self.old.disk)
-            × (self.new.filled ≡ self.old.filled) }
-        ensures called { D.honest self.old.disk → self.old.told.held ≢ []
-            → OnOk result (Called 4 (D.called self.old.disk) (D.called self.new.disk)) }
-    {
-        if self.store.has_fallen() {
-            return Err(GatewayFault::Reopen);
-        }
-        if self.pending.is_quiet() {
-            return Ok(());
-        }
-        let Err(fault) = self.store.commit(self.pending.group()) else {
-            self.pending.let_go(self.store.end());
-            self.in_place = true;
-            return Ok(());
-        };
-        match fault {
-            CommitFault::Device => Err(GatewayFault::Device),
-            // The group fits its file, as in `flush`.
-            CommitFault::Full => unreachable!(),
         }
     }
 
@@ -689,7 +624,7 @@ impl<D: Disk + Drop> Gateway<D> {
         {
             Ok(()) => {
                 self.in_place = true;
-                let _ = self.pending.release(self.store.end());
+                let _ = self.pending.release(self.store.end(), false);
                 Ok(())
             }
             Err(fault) => Err(why_not_compacted(fault)),
@@ -735,6 +670,17 @@ impl<D: Disk + Drop> Gateway<D> {
         ensures within { self.old.fallen ≡ false
             → IfErr result (λ e. StopsWithin D.honest D.moment D.left D.failed self.old self.new
             events.items e.0.items e.1) }
+
+        // Whatever is held when it begins: any run that stood then, whose answers `before` were handed out, goes on to
+        // here, or ends here, with these answers handed out behind them; and none of `before` is lost meanwhile.
+        ensures carries { IfOk result (λ answers. (before : List (ℕ × Answer))
+            → CarriesOn D.honest D.moment D.left D.failed self.old self.new events.items before
+            (before ++ answers.items)) }
+        ensures breaks { self.old.fallen ≡ false → IfErr result (λ e. (before : List (ℕ × Answer))
+            → BreaksOff D.honest D.moment D.left D.failed self.old self.new events.items before
+            (before ++ e.0.items) e.1) }
+        ensures through { (before : List (ℕ × Answer))
+            → SafeThrough D.honest D.moment D.left D.failed self.old self.new events.items before }
         ensures configured { self.old.fallen ≡ false → D.honest self.old.disk
             → LeavesOnly D.moment D.left self.old.disk self.new.disk
             (IsConfigured self.old.told.config) }

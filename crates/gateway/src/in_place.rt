@@ -4,7 +4,7 @@
 //! - `take_packet`: `Gateway::take_packet` takes the packet. Where it is refused for want of room, `retake_packet`
 //!   settles the held answers (`settle_held_full`), or settles and compacts (`make_room`), and it is taken again
 //! - `take_load`, `take_moment`: so does `take_event` an event without a packet, by `Gateway::take_event`
-ghost use Rattle.std.specs.Prelude.{◌≡◌, ◌≢◌, ◌^◌, ◌<◌, ◌≤◌, ◌∷◌, [], ℕ, List, false, length};
+ghost use Rattle.std.specs.Prelude.{◌≡◌, ◌≢◌, ◌⊎◌, ◌-◌, ◌^◌, ◌<◌, ◌≤◌, ◌∷◌, [], ℕ, List, false, length};
 ghost use Rattle.std.specs.Prelude.{IfErr, IfOk, OnErr, OnOk, true};
 ghost use Rattle.machine.specs.declared.event.Answer.{Answer};
 ghost use Rattle.machine.specs.declared.event.What.TheVariants.{Load, Moment, Packet};
@@ -48,6 +48,8 @@ pub fn take_packet<D: Disk + Drop>(
     ensures err { IfErr result (λ e. Fails D.honest D.moment D.left D.failed
         gateway.old gateway.new
         (record { moment = moment; what = Packet iface packet.old } ∷ []) e) }
+    ensures numbers_out { gateway.old.told.last ≡ 2 ^ 64 - 1
+        → IfErr result (λ e. e ≡ GatewayFault.NumbersOut) }
     ensures untouched { OnErr result (packet.new ≡ packet.old) }
     ensures any_moment { (before : List (ℕ × Answer))
         → SafeWithin D.honest D.moment D.left D.failed gateway.old gateway.new before }
@@ -78,6 +80,7 @@ fn retake_packet<D: Disk + Drop>(
     requires refused { fault ≢ GatewayFault.Full → fault ≢ GatewayFault.HeldFull
         → Fails D.honest D.moment D.left D.failed gateway.old gateway.old
         (record { moment = moment; what = Packet iface packet.old } ∷ []) fault }
+    requires numbers_out { gateway.old.told.last ≡ 2 ^ 64 - 1 → fault ≡ GatewayFault.NumbersOut }
     requires stands { gateway.old.fallen ≡ false }
     requires in_place { gateway.old.in_place ≡ true }
     requires short { length packet.old ≤ 65535 }
@@ -90,6 +93,8 @@ fn retake_packet<D: Disk + Drop>(
     ensures err { IfErr result (λ e. Fails D.honest D.moment D.left D.failed
         gateway.old gateway.new
         (record { moment = moment; what = Packet iface packet.old } ∷ []) e) }
+    ensures numbers_out { gateway.old.told.last ≡ 2 ^ 64 - 1
+        → IfErr result (λ e. e ≡ GatewayFault.NumbersOut) }
     ensures untouched { OnErr result (packet.new ≡ packet.old) }
     ensures any_moment { (before : List (ℕ × Answer))
         → SafeWithin D.honest D.moment D.left D.failed gateway.old gateway.new before }
@@ -114,7 +119,8 @@ fn retake_packet<D: Disk + Drop>(
 
 // Whether there was no room for an answer or for entries.
 fn lacks_room(fault: GatewayFault) -> bool
-    ensures { result ≡ false → (fault ≢ GatewayFault.Full) × (fault ≢ GatewayFault.HeldFull) }
+    ensures none { result ≡ false → (fault ≢ GatewayFault.Full) × (fault ≢ GatewayFault.HeldFull) }
+    ensures some { result ≡ true → (fault ≡ GatewayFault.Full) ⊎ (fault ≡ GatewayFault.HeldFull) }
 {
     matches!(fault, GatewayFault::Full | GatewayFault::HeldFull)
 }
@@ -204,6 +210,8 @@ pub fn take_moment<D: Disk + Drop>(
     ensures err { IfErr result (λ e. Fails D.honest D.moment D.left D.failed
         gateway.old gateway.new
         (record { moment = moment; what = Moment } ∷ []) e) }
+    ensures numbers_out { gateway.old.told.last ≡ 2 ^ 64 - 1
+        → IfErr result (λ e. (e ≡ GatewayFault.NumbersOut) ⊎ (e ≡ GatewayFault.Device)) }
     ensures any_moment { (before : List (ℕ × Answer))
         → SafeWithin D.honest D.moment D.left D.failed gateway.old gateway.new before }
     ensures stands { OnOk result (gateway.new.fallen ≡ false) }
@@ -227,6 +235,8 @@ fn take_event<D: Disk + Drop>(
         → gateway.new.told.held ≡ []) }
     ensures err { IfErr result (λ e. Fails D.honest D.moment D.left D.failed
         gateway.old gateway.new (event ∷ []) e) }
+    ensures numbers_out { gateway.old.told.last ≡ 2 ^ 64 - 1
+        → IfErr result (λ e. (e ≡ GatewayFault.NumbersOut) ⊎ (e ≡ GatewayFault.Device)) }
     ensures any_moment { (before : List (ℕ × Answer))
         → SafeWithin D.honest D.moment D.left D.failed gateway.old gateway.new before }
     ensures stands { OnOk result (gateway.new.fallen ≡ false) }
@@ -279,6 +289,7 @@ fn settle_held_full<D: Disk + Drop>(gateway: &mut Gateway<D>) -> Result<(), Gate
         [] []) }
     ensures err { IfErr result (λ e. Fails D.honest D.moment D.left D.failed
         gateway.old gateway.new [] e) }
+    ensures device { IfErr result (λ e. e ≡ GatewayFault.Device) }
     ensures any_moment { (before : List (ℕ × Answer))
         → SafeWithin D.honest D.moment D.left D.failed gateway.old gateway.new before }
     ensures stands { OnOk result (gateway.new.fallen ≡ false) }
@@ -339,6 +350,8 @@ fn offer_packet<D: Disk + Drop>(
         (record { moment = moment; what = Packet iface packet.old } ∷ []) e)
         × (IsRoomy gateway.old.filled → e ≢ GatewayFault.Full)
         × (length gateway.old.told.held < 64 → e ≢ GatewayFault.HeldFull)) }
+    ensures numbers_out { gateway.old.told.last ≡ 2 ^ 64 - 1
+        → IfErr result (λ e. e ≡ GatewayFault.NumbersOut) }
     ensures any_moment { (before : List (ℕ × Answer))
         → SafeWithin D.honest D.moment D.left D.failed gateway.old gateway.new before }
     ensures stands { gateway.new.fallen ≡ false }
@@ -365,6 +378,8 @@ fn offer_event<D: Disk + Drop>(
         × (e.1 ≢ GatewayFault.Full
         → Fails D.honest D.moment D.left D.failed gateway.old gateway.new (event ∷ []) e.1)
         × (IsRoomy gateway.old.filled → e.1 ≢ GatewayFault.Full)) }
+    ensures numbers_out { gateway.old.told.last ≡ 2 ^ 64 - 1
+        → IfErr result (λ e. e.1 ≡ GatewayFault.NumbersOut) }
     ensures any_moment { (before : List (ℕ × Answer))
         → SafeWithin D.honest D.moment D.left D.failed gateway.old gateway.new before }
     ensures stands { gateway.new.fallen ≡ false }

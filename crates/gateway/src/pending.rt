@@ -5,9 +5,9 @@
 //! of it go (`release`).
 //!
 //! `Gateway::take_packet` has a copy of the packet held (`hold_copy`), in a slot that stands ready since `reserve`.
-//! A settlement lets the answers go (`let_go`), and their slots hold others. Where answers are handed out, or one comes
+//! A settlement doesn't want the answers, and their slots hold others. Where answers are handed out, or one comes
 //! that isn't copied, those in slots are made into such as the others (`move_out`).
-ghost use Rattle.std.specs.Prelude.{◌≡◌, ◌≢◌, ◌↔◌, ◌+◌, ◌*◌, ◌<◌, ◌≤◌, ◌^◌, ◌++◌, ◌∷◌, [], length, take, drop, IfOk, IfSome, IfNone, OnOk, IsTrue, vec_len, vec_capacity};
+ghost use Rattle.std.specs.Prelude.{◌≡◌, ◌≢◌, ◌↔◌, ◌+◌, ◌*◌, ◌<◌, ◌≤◌, ◌^◌, ◌++◌, ◌∷◌, [], length, take, drop, IfOk, IfSome, IfNone, OnOk, IsTrue, true, vec_len, vec_capacity};
 ghost use Rattle.durable.specs.Coding.{IsEntry, AreEntries, entry_bytes, body_bytes};
 ghost use Rattle.durable.specs.Viewing.{view};
 ghost use Rattle.machine.specs.Fates.{answer_of};
@@ -141,28 +141,23 @@ impl Pending {
         self.used += 1;
     }
 
-    /// Gives the answers, and lets the entries go; the next group will stand at the place. It takes no memory.
-    pub(crate) fn release(&mut self, place: u64) -> Vec<(u64, Answer)>
-        ensures answers { result.items ≡ self.old.held }
+    /// Lets the entries go, and gives the answers, if they are wanted; else these are let go, and their slots hold
+    /// others. The next group will stand at the place. It takes no memory.
+    pub(crate) fn release(&mut self, place: u64, wanted: bool) -> Vec<(u64, Answer)>
+        ensures answers { wanted ≡ true → result.items ≡ self.old.held }
         ensures none { self.new ≡ record { held = []; entries = []; place = place; room = 0 } }
     {
         self.room = 0;
         self.place = place;
         self.group.clear();
-        move_out(&mut self.held, &mut self.slots, self.used);
-        self.used = 0;
-        std::mem::replace(&mut self.held, Vec::new(self.alloc))
-    }
-
-    /// As `release`, but the answers are let go, and their slots hold others.
-    pub(crate) fn let_go(&mut self, place: u64)
-        ensures { self.new ≡ record { held = []; entries = []; place = place; room = 0 } }
-    {
-        self.room = 0;
-        self.place = place;
-        self.group.clear();
+        if wanted {
+            move_out(&mut self.held, &mut self.slots, self.used);
+            self.used = 0;
+            return std::mem::replace(&mut self.held, Vec::new(self.alloc));
+        }
         self.held.clear();
         self.used = 0;
+        Vec::new(self.alloc)
     }
 }
 

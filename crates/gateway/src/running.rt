@@ -10,12 +10,12 @@
 //! - `hand_out`: what is held is synced and handed out (`Gateway::flush`)
 //! - `settle`: what is held is synced, for those who have its answers (`Gateway::settle`)
 //! - `compact`: what is held is handed out, and the files are made short (`Gateway::compact`)
-ghost use Rattle.std.specs.Prelude.{◌≡◌, ◌≢◌, ◌↔◌, ◌+◌, ◌<◌, ◌≤◌, ◌++◌, ◌∷◌, [], ℕ, List, false, length};
+ghost use Rattle.std.specs.Prelude.{◌≡◌, ◌≢◌, ◌↔◌, ◌⊎◌, ◌+◌, ◌-◌, ◌^◌, ◌<◌, ◌≤◌, ◌++◌, ◌∷◌, [], ℕ, List, false, length};
 ghost use Rattle.std.specs.Prelude.{IfErr, IsTrue, OnErr, OnOk, true, vec_capacity, vec_len};
 ghost use Rattle.machine.specs.declared.event.Answer.{Answer};
 ghost use Rattle.gateway.specs.Kept.{IsRoomy};
 ghost use Rattle.gateway.specs.Given.{handed};
-ghost use Rattle.gateway.specs.Running.{BreaksOff, CarriesOn, Ends, SafeWithin, Stands, StopsWithin};
+ghost use Rattle.gateway.specs.Running.{BreaksOff, CarriesOn, Ends, SafeThrough, SafeWithin, Stands, StopsWithin};
 
 use crate::calls::Gateway;
 pub use crate::in_place::{take_load, take_moment, take_packet};
@@ -38,9 +38,8 @@ pub(crate) fn take_all<D: Disk + Drop>(
     events: Vec<Event>,
     answers: &mut Vec<(u64, Answer)>,
 ) -> Result<(), GatewayFault>
-    // A run of no event hands none out: so this says that `answers` is empty, and that the gateway stands.
-    requires begun { Stands D.honest D.moment D.left D.failed gateway.old gateway.old []
-        answers.old.items }
+    requires begun { Stands D.honest D.moment D.left D.failed gateway.old gateway.old [] [] }
+    requires empty { answers.old.items ≡ [] }
     requires room { vec_len answers.old + length gateway.old.told.held + length events.items
         ≤ vec_capacity answers.old }
     ensures ok { OnOk result (Ends D.honest D.moment D.left D.failed gateway.old gateway.new
@@ -48,6 +47,15 @@ pub(crate) fn take_all<D: Disk + Drop>(
     ensures none { OnOk result (gateway.new.told.held ≡ []) }
     ensures err { IfErr result (StopsWithin D.honest D.moment D.left D.failed gateway.old
         gateway.new events.items answers.new.items) }
+    ensures carries { OnOk result ((before : List (ℕ × Answer))
+        → CarriesOn D.honest D.moment D.left D.failed gateway.old gateway.new events.items before
+        (before ++ answers.new.items)) }
+    ensures breaks { IfErr result (λ e. (before : List (ℕ × Answer))
+        → BreaksOff D.honest D.moment D.left D.failed gateway.old gateway.new events.items before
+        (before ++ answers.new.items) e) }
+    ensures through { (before : List (ℕ × Answer))
+        → SafeThrough D.honest D.moment D.left D.failed gateway.old gateway.new events.items
+        before }
     ensures stands { OnOk result (gateway.new.fallen ≡ false) }
     ensures no_failure { OnOk result (D.failed gateway.new.disk ≡ D.failed gateway.old.disk) }
 {
@@ -72,13 +80,18 @@ pub fn take<D: Disk + Drop>(
     requires stands { gateway.old.fallen ≡ false }
     requires room { vec_len answers.old + length gateway.old.told.held + 1
         ≤ vec_capacity answers.old }
-    ensures ok { OnOk result (CarriesOn D.honest D.moment D.left D.failed
-        gateway.old gateway.new (event ∷ []) answers.old.items answers.new.items) }
-    ensures err { IfErr result (BreaksOff D.honest D.moment D.left D.failed
-        gateway.old gateway.new (event ∷ []) answers.old.items answers.new.items) }
-    ensures any_moment { SafeWithin D.honest D.moment D.left D.failed gateway.old gateway.new
-        answers.old.items }
+    ensures ok { OnOk result ((before : List (ℕ × Answer))
+        → CarriesOn D.honest D.moment D.left D.failed gateway.old gateway.new (event ∷ [])
+        (before ++ answers.old.items) (before ++ answers.new.items)) }
+    ensures err { IfErr result (λ e. (before : List (ℕ × Answer))
+        → BreaksOff D.honest D.moment D.left D.failed gateway.old gateway.new (event ∷ [])
+        (before ++ answers.old.items) (before ++ answers.new.items) e) }
+    ensures any_moment { (before : List (ℕ × Answer))
+        → SafeWithin D.honest D.moment D.left D.failed gateway.old gateway.new
+        (before ++ answers.old.items) }
     ensures stands { OnOk result (gateway.new.fallen ≡ false) }
+    ensures numbers_out { gateway.old.told.last ≡ 2 ^ 64 - 1
+        → IfErr result (λ e. (e ≡ GatewayFault.NumbersOut) ⊎ (e ≡ GatewayFault.Device)) }
     ensures not_taken { OnErr result ((gateway.new.told.state ≡ gateway.old.told.state)
         × (gateway.new.told.last ≡ gateway.old.told.last)) }
     ensures room { vec_len answers.new + length gateway.new.told.held
@@ -104,12 +117,15 @@ fn take_behind_compaction<D: Disk + Drop>(
     requires stands { gateway.old.fallen ≡ false }
     requires room { vec_len answers.old + length gateway.old.told.held + 1
         ≤ vec_capacity answers.old }
-    ensures ok { OnOk result (CarriesOn D.honest D.moment D.left D.failed
-        gateway.old gateway.new (event ∷ []) answers.old.items answers.new.items) }
-    ensures err { IfErr result (BreaksOff D.honest D.moment D.left D.failed
-        gateway.old gateway.new (event ∷ []) answers.old.items answers.new.items) }
-    ensures any_moment { SafeWithin D.honest D.moment D.left D.failed gateway.old gateway.new
-        answers.old.items }
+    ensures ok { OnOk result ((before : List (ℕ × Answer))
+        → CarriesOn D.honest D.moment D.left D.failed gateway.old gateway.new (event ∷ [])
+        (before ++ answers.old.items) (before ++ answers.new.items)) }
+    ensures err { IfErr result (λ e. (before : List (ℕ × Answer))
+        → BreaksOff D.honest D.moment D.left D.failed gateway.old gateway.new (event ∷ [])
+        (before ++ answers.old.items) (before ++ answers.new.items) e) }
+    ensures any_moment { (before : List (ℕ × Answer))
+        → SafeWithin D.honest D.moment D.left D.failed gateway.old gateway.new
+        (before ++ answers.old.items) }
     ensures stands { OnOk result (gateway.new.fallen ≡ false) }
     ensures not_taken { OnErr result ((gateway.new.told.state ≡ gateway.old.told.state)
         × (gateway.new.told.last ≡ gateway.old.told.last)) }
@@ -136,12 +152,15 @@ pub fn compact<D: Disk + Drop>(
 ) -> Result<(), GatewayFault>
     requires stands { gateway.old.fallen ≡ false }
     requires room { vec_len answers.old + length gateway.old.told.held ≤ vec_capacity answers.old }
-    ensures ok { OnOk result (CarriesOn D.honest D.moment D.left D.failed
-        gateway.old gateway.new [] answers.old.items answers.new.items) }
-    ensures err { IfErr result (BreaksOff D.honest D.moment D.left D.failed
-        gateway.old gateway.new [] answers.old.items answers.new.items) }
-    ensures any_moment { SafeWithin D.honest D.moment D.left D.failed gateway.old gateway.new
-        answers.old.items }
+    ensures ok { OnOk result ((before : List (ℕ × Answer))
+        → CarriesOn D.honest D.moment D.left D.failed gateway.old gateway.new []
+        (before ++ answers.old.items) (before ++ answers.new.items)) }
+    ensures err { IfErr result (λ e. (before : List (ℕ × Answer))
+        → BreaksOff D.honest D.moment D.left D.failed gateway.old gateway.new []
+        (before ++ answers.old.items) (before ++ answers.new.items) e) }
+    ensures any_moment { (before : List (ℕ × Answer))
+        → SafeWithin D.honest D.moment D.left D.failed gateway.old gateway.new
+        (before ++ answers.old.items) }
     ensures stands { OnOk result (gateway.new.fallen ≡ false) }
     ensures state { gateway.new.told.state ≡ gateway.old.told.state }
     ensures last { gateway.new.told.last ≡ gateway.old.told.last }
@@ -185,12 +204,16 @@ fn flush_held_full<D: Disk + Drop>(
 ) -> Result<(), GatewayFault>
     requires stands { gateway.old.fallen ≡ false }
     requires room { vec_len answers.old + length gateway.old.told.held ≤ vec_capacity answers.old }
-    ensures ok { OnOk result (CarriesOn D.honest D.moment D.left D.failed
-        gateway.old gateway.new [] answers.old.items answers.new.items) }
-    ensures err { IfErr result (BreaksOff D.honest D.moment D.left D.failed
-        gateway.old gateway.new [] answers.old.items answers.new.items) }
-    ensures any_moment { SafeWithin D.honest D.moment D.left D.failed gateway.old gateway.new
-        answers.old.items }
+    ensures ok { OnOk result ((before : List (ℕ × Answer))
+        → CarriesOn D.honest D.moment D.left D.failed gateway.old gateway.new []
+        (before ++ answers.old.items) (before ++ answers.new.items)) }
+    ensures err { IfErr result (λ e. (before : List (ℕ × Answer))
+        → BreaksOff D.honest D.moment D.left D.failed gateway.old gateway.new []
+        (before ++ answers.old.items) (before ++ answers.new.items) e) }
+    ensures any_moment { (before : List (ℕ × Answer))
+        → SafeWithin D.honest D.moment D.left D.failed gateway.old gateway.new
+        (before ++ answers.old.items) }
+    ensures device { IfErr result (λ e. e ≡ GatewayFault.Device) }
     ensures stands { OnOk result (gateway.new.fallen ≡ false) }
     ensures state { gateway.new.told.state ≡ gateway.old.told.state }
     ensures last { gateway.new.told.last ≡ gateway.old.told.last }
@@ -217,12 +240,15 @@ pub fn hand_out<D: Disk + Drop>(
 ) -> Result<(), GatewayFault>
     requires stands { gateway.old.fallen ≡ false }
     requires room { vec_len answers.old + length gateway.old.told.held ≤ vec_capacity answers.old }
-    ensures ok { OnOk result (CarriesOn D.honest D.moment D.left D.failed
-        gateway.old gateway.new [] answers.old.items answers.new.items) }
-    ensures err { IfErr result (BreaksOff D.honest D.moment D.left D.failed
-        gateway.old gateway.new [] answers.old.items answers.new.items) }
-    ensures any_moment { SafeWithin D.honest D.moment D.left D.failed gateway.old gateway.new
-        answers.old.items }
+    ensures ok { OnOk result ((before : List (ℕ × Answer))
+        → CarriesOn D.honest D.moment D.left D.failed gateway.old gateway.new []
+        (before ++ answers.old.items) (before ++ answers.new.items)) }
+    ensures err { IfErr result (λ e. (before : List (ℕ × Answer))
+        → BreaksOff D.honest D.moment D.left D.failed gateway.old gateway.new []
+        (before ++ answers.old.items) (before ++ answers.new.items) e) }
+    ensures any_moment { (before : List (ℕ × Answer))
+        → SafeWithin D.honest D.moment D.left D.failed gateway.old gateway.new
+        (before ++ answers.old.items) }
     ensures stands { OnOk result (gateway.new.fallen ≡ false) }
     ensures state { gateway.new.told.state ≡ gateway.old.told.state }
     ensures last { gateway.new.told.last ≡ gateway.old.told.last }
@@ -284,16 +310,20 @@ fn offer<D: Disk + Drop>(
     requires few { length gateway.old.told.held < 64 }
     requires room { vec_len answers.old + length gateway.old.told.held + 1
         ≤ vec_capacity answers.old }
-    ensures ok { OnOk result (CarriesOn D.honest D.moment D.left D.failed
-        gateway.old gateway.new (event ∷ []) answers.old.items answers.new.items) }
+    ensures ok { OnOk result ((before : List (ℕ × Answer))
+        → CarriesOn D.honest D.moment D.left D.failed gateway.old gateway.new (event ∷ [])
+        (before ++ answers.old.items) (before ++ answers.new.items)) }
     ensures err { IfErr result (λ e. (e.0 ≡ event) × (gateway.new ≡ gateway.old)
         × (answers.new ≡ answers.old)) }
-    ensures any_moment { SafeWithin D.honest D.moment D.left D.failed gateway.old gateway.new
-        answers.old.items }
+    ensures any_moment { (before : List (ℕ × Answer))
+        → SafeWithin D.honest D.moment D.left D.failed gateway.old gateway.new
+        (before ++ answers.old.items) }
     ensures full { IsRoomy gateway.old.filled → IfErr result (λ e. e.1 ≢ GatewayFault.Full) }
-    ensures why { IfErr result (λ e. e.1 ≢ GatewayFault.Full
+    ensures numbers_out { gateway.old.told.last ≡ 2 ^ 64 - 1
+        → IfErr result (λ e. e.1 ≡ GatewayFault.NumbersOut) }
+    ensures why { IfErr result (λ e. e.1 ≢ GatewayFault.Full → (before : List (ℕ × Answer))
         → BreaksOff D.honest D.moment D.left D.failed gateway.old gateway.new (event ∷ [])
-        answers.old.items answers.new.items e.1) }
+        (before ++ answers.old.items) (before ++ answers.new.items) e.1) }
     ensures stands { OnOk result (gateway.new.fallen ≡ false) }
     ensures room { vec_len answers.new + length gateway.new.told.held
         ≤ vec_len answers.old + length gateway.old.told.held + 1 }

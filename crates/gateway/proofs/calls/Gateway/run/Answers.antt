@@ -1,8 +1,9 @@
-use Rattle.std.proofs.Common.{[], List, ℕ, sym, ◌∙◌, subst}
+use Rattle.std.proofs.Common.{[], ◌++◌, List, ℕ, ap, refl, sym, ◌∙◌, subst}
+use Rattle.std.proofs.lemmas.List.{append-nil}
 use Rattle.machine.specs.declared.event.Answer.{Answer}
-use Rattle.gateway.specs.Running.{Stands}
+use Rattle.gateway.specs.Running.{BreaksOff}
 use Rattle.gateway.specs.declared.fault.GatewayFault.TheVariants as fault
-use Rattle.gateway.proofs.Runs.{begun, ended, refused, true-false, within-took, within-any_moment, within-at_exit}
+use Rattle.gateway.proofs.Runs.{begun, breaks-here, ended, memory-why, refused, still-within, true-false, within-took, within-any_moment, within-at_exit, within-through}
 use Rattle.gateway.proofs.calls.Gateway.run.Goals as goal
 
 pub take_all-requires-clause-begun : goal.take_all-requires-clause-begun
@@ -10,8 +11,7 @@ take_all-requires-clause-begun g c =
     let self = c.args.self.now in
     let f = c.has_fallen.ensures in
     let up = c.if-has_fallen.false in
-    subst (λ (out : List (ℕ × Answer)). Stands g.D.Disk.honest g.D.Disk.moment g.D.Disk.left g.D.Disk.failed self self [] out) (sym c.in-Ok.ensures.items)
-    (begun g.D.Disk.honest g.D.Disk.moment g.D.Disk.left g.D.Disk.seen g.D.Disk.failed g.met.D.Disk.reads g.met.D.Disk.earlier self (sym f.value ∙ up) (f.stands up) (f.present up) (f.configured up))
+    begun g.D.Disk.honest g.D.Disk.moment g.D.Disk.left g.D.Disk.seen g.D.Disk.failed g.met.D.Disk.reads g.met.D.Disk.earlier self (sym f.value ∙ up) (f.stands up) (f.present up) (f.configured up)
 
 pub returns-in_default-clause-any_moment : goal.returns-in_default-clause-any_moment
 returns-in_default-clause-any_moment g c =
@@ -105,3 +105,26 @@ returns-in_default-clause-within g c =
 
 pub returns-in-Err-clause-within : goal.returns-in-Err-clause-within
 returns-in-Err-clause-within g c = λ stood. c.in-Err.ensures.err
+
+-- whatever is held
+
+pub returns-then-has_fallen-clause-through : goal.returns-then-has_fallen-clause-through
+returns-then-has_fallen-clause-through g c =
+    let self = c.args.self.now in
+    λ before. within-through g.D.Disk.honest g.D.Disk.moment g.D.Disk.left g.D.Disk.failed self self c.args.events.items before (λ start events s ready. still-within g.D.Disk.honest g.D.Disk.moment g.D.Disk.left g.D.Disk.seen g.D.Disk.failed g.met.D.Disk.reads g.met.D.Disk.earlier start self events before s self refl ready)
+
+pub returns-in_default-clause-breaks : goal.returns-in_default-clause-breaks
+returns-in_default-clause-breaks g c = λ stood before.
+    let self = c.args.self.now in
+    let none = ap (λ (l : List (ℕ × Answer)). before ++ l) c.new-in_default.ensures.items ∙ append-nil before in
+    subst (λ (l : List (ℕ × Answer)). BreaksOff g.D.Disk.honest g.D.Disk.moment g.D.Disk.left g.D.Disk.failed self self c.args.events.items before l fault.NoMemory) (sym none)
+    (breaks-here g.D.Disk.honest g.D.Disk.moment g.D.Disk.left g.D.Disk.failed self self c.args.events.items before before fault.NoMemory (λ start events s. record {
+      ends = ended g.D.Disk.honest g.D.Disk.moment g.D.Disk.left g.D.Disk.seen g.D.Disk.failed g.met.D.Disk.reads g.met.D.Disk.earlier start self events before s;
+      is_why = memory-why g.D.Disk.honest g.D.Disk.moment g.D.Disk.left g.D.Disk.failed start self s.stands s.no_failure;
+      stays = λ other. s;
+    }))
+
+pub returns-in_default-clause-through : goal.returns-in_default-clause-through
+returns-in_default-clause-through g c =
+    let self = c.args.self.now in
+    λ before. within-through g.D.Disk.honest g.D.Disk.moment g.D.Disk.left g.D.Disk.failed self self c.args.events.items before (λ start events s ready. still-within g.D.Disk.honest g.D.Disk.moment g.D.Disk.left g.D.Disk.seen g.D.Disk.failed g.met.D.Disk.reads g.met.D.Disk.earlier start self events before s self refl ready)
