@@ -57,11 +57,12 @@ fn look_ahead<D: Disk + Drop>(bytes: &[u8], gateway: &Gateway<D>) -> Ahead {
     let mut coming = [NOTHING; MOST_AHEAD];
     let count = fill(&mut coming, bytes);
     if count_apart(&coming) >= FEW_APART {
-        // If none of them seems known, the next look comes a frame later. This tells little: it is asked, so that a
-        // compiler can't leave the look out.
-        let known = usize::from(gateway.look_ahead(&coming) > 0);
+        // New flows come together: if none of these seems known, it isn't looked ahead for a while.
+        if gateway.look_ahead(&coming) == 0 {
+            return Ahead { frames };
+        }
         return Ahead {
-            frames: count.saturating_sub(known),
+            frames: count.saturating_sub(1),
         };
     }
     // Fewer packets than it looks ahead for tell nothing of those behind them.

@@ -40,17 +40,43 @@ pub fn answer_request<D: Disk + Drop>(
     ensures in_place { gateway.new.in_place ≡ true }
     ensures length { length bytes.new ≡ length bytes.old }
 {
+    if let Kind::Packet(iface) = kind {
+        return answer_packet(bytes, iface, moment, gateway);
+    }
+    // Taken apart, so that the answer to a packet needs no place in memory.
+    match answer_other(bytes, kind, moment, gateway) {
+        Ok(len) => Ok(len),
+        Err(fault) => Err(fault),
+    }
+}
+
+/// As `answer_request`, of a request without a packet.
+#[inline(never)]
+fn answer_other<D: Disk + Drop>(
+    bytes: &mut [u8],
+    kind: Kind,
+    moment: u64,
+    gateway: &mut Gateway<D>,
+) -> Result<usize, GatewayFault>
+    requires stands { gateway.old.fallen ≡ false }
+    requires in_place { gateway.old.in_place ≡ true }
+    requires head { 14 ≤ length bytes.old }
+    requires longest { length bytes.old ≤ 14 + longest kind }
+    requires other { (iface : Iface) → kind ≢ Kind.Packet iface }
+    ensures ok { IfOk result (λ len. (answer : ℕ × Answer) × (take len bytes.new ≡ frame answer)
+        × Proceeds D.honest D.moment D.left D.failed gateway.old gateway.new
+        (record { moment = moment; what = what_of kind (drop 14 bytes.old) } ∷ []) (answer ∷ [])) }
+    ensures within { IfOk result (λ len. len ≤ length bytes.new) }
+    ensures err { IfErr result (Fails D.honest D.moment D.left D.failed gateway.old gateway.new
+        (record { moment = moment; what = what_of kind (drop 14 bytes.old) } ∷ [])) }
+    ensures stands { OnOk result (gateway.new.fallen ≡ false) }
+    ensures in_place { gateway.new.in_place ≡ true }
+    ensures length { length bytes.new ≡ length bytes.old }
+{
     match kind {
-        Kind::Packet(iface) => answer_packet(bytes, iface, moment, gateway),
-        // These are taken apart, so that the answer to a packet needs no place in memory.
-        Kind::Load => match answer_load(bytes, moment, gateway) {
-            Ok(len) => Ok(len),
-            Err(fault) => Err(fault),
-        },
-        Kind::Moment => match answer_moment(bytes, moment, gateway) {
-            Ok(len) => Ok(len),
-            Err(fault) => Err(fault),
-        },
+        Kind::Load => answer_load(bytes, moment, gateway),
+        Kind::Moment => answer_moment(bytes, moment, gateway),
+        Kind::Packet(_) => unreachable!(),
     }
 }
 
@@ -86,7 +112,6 @@ fn answer_packet<D: Disk + Drop>(
 }
 
 /// As `answer_request`, of the text of a ruleset.
-#[inline(never)]
 fn answer_load<D: Disk + Drop>(
     bytes: &mut [u8],
     moment: u64,
@@ -114,7 +139,6 @@ fn answer_load<D: Disk + Drop>(
 }
 
 /// As `answer_request`, of a moment alone.
-#[inline(never)]
 fn answer_moment<D: Disk + Drop>(
     bytes: &mut [u8],
     moment: u64,
