@@ -63,15 +63,15 @@ module _ (requests given rest : List ℕ) (split : requests ≡ given ++ rest) (
       absurd cc
 
   pub of_turn : (e : EdgeFault) (old new : Told) (sent : List ℕ) → EndsBy e old new given sent (rest ≡ [])
-      → (e ≢ Gateway Reopen) × (e ≢ Gateway HeldFull) × (e ≢ Gateway Full) → IsOfTurn e
-  of_turn BadKind old new sent ends not = none_faulty _ ends.0
-  of_turn BadInterface old new sent ends not = none_faulty _ ends.0
-  of_turn TooLong old new sent ends not = none_faulty _ ends.0
-  of_turn Truncated old new sent ends not =
+      → (e ≢ Gateway Reopen) × (e ≢ Gateway HeldFull) × (e ≢ Gateway Full) → e ≢ Input → IsOfTurn e
+  of_turn BadKind old new sent ends not reads = none_faulty _ ends.0
+  of_turn BadInterface old new sent ends not reads = none_faulty _ ends.0
+  of_turn TooLong old new sent ends not reads = none_faulty _ ends.0
+  of_turn Truncated old new sent ends not reads =
       let same : requests ≡ given = split ∙ ap (λ (x : List ℕ). given ++ x) ends.4 ∙ append-nil given in
       let clash : Rest [] ≡ Rest ends.0 = sym whole ∙ ap remainder_of same ∙ ends.1 in
       let nothing : ends.0 ≡ [] = cc in
       absurd (ends.2 nothing)
-  of_turn Input old new sent ends not = tt
-  of_turn Output old new sent ends not = tt
-  of_turn (Gateway fault) old new sent ends not = (λ is. not.0 (ap Gateway is), λ is. not.1 (ap Gateway is), λ is. not.2 (ap Gateway is))
+  of_turn Input old new sent ends not reads = reads refl
+  of_turn Output old new sent ends not reads = tt
+  of_turn (Gateway fault) old new sent ends not reads = (λ is. not.0 (ap Gateway is), λ is. not.1 (ap Gateway is), λ is. not.2 (ap Gateway is))
