@@ -1,5 +1,5 @@
 -- Of whole requests none is faulty, and so no fault of a frame comes of them.
-use Rattle.std.proofs.Common.{◌≡◌, ◌≢◌, ℕ, suc, zero, ◌+◌, ◌≤◌, Bool, true, false, cond, ltb, List, [], ◌∷◌, ◌++◌, length, take, drop, refl, sym, ap, ◌∙◌, arith}
+use Rattle.std.proofs.Common.{◌≡◌, ◌≢◌, ℕ, suc, zero, ◌+◌, ◌≤◌, Bool, true, false, cond, ltb, List, [], ◌++◌, length, take, drop, refl, sym, ap, ◌∙◌, arith}
 use Rattle.std.specs.Prelude.{slice_index}
 use Rattle.std.proofs.lemmas.Bool.{ltb-false}
 use Rattle.std.proofs.lemmas.List.{append-nil}
@@ -7,12 +7,11 @@ use Rattle.byteorder.specs.Endian.{big_number}
 use Rattle.frames.specs.declared.fault.HeaderFault.{HeaderFault}
 use Rattle.frames.specs.declared.request.Head.{Head}
 use Rattle.frames.specs.declared.request.Head.TheVariants as head
-use Rattle.frames.specs.Framing.{EventsAndRest, Fault, Rest, whole_frames}
+use Rattle.frames.specs.Framing.{EventsAndRest, Fault, Rest}
 use Rattle.frames.specs.Requests.{Next, Whole, Cut, Bad, announced, head_of, head_with, next, what_of, with_body}
 use Rattle.frames.proofs.Frames.{framed_whole, framed_cut, framed_bad}
 use Rattle.frames.proofs.Fronts.{head_stays, next_more, next_shorter}
 use Rattle.gateway.specs.Told.{Told}
-use Rattle.gateway.specs.declared.fault.GatewayFault.{GatewayFault}
 use Rattle.gateway.specs.declared.fault.GatewayFault.TheVariants.{Full, HeldFull, Reopen}
 use Rattle.socket_edge.specs.declared.fault.EdgeFault.{EdgeFault}
 use Rattle.socket_edge.specs.declared.fault.EdgeFault.TheVariants.{BadKind, BadInterface, TooLong, Truncated, Input, Output, Gateway}
