@@ -7,6 +7,7 @@ mod Taken
 mod Stopping
 mod Prompt
 mod Unfaulty
+mod Short
 mod Going
 mod Lives
 mod Noted

@@ -1,5 +1,5 @@
 -- Of whole requests none is faulty, and so no fault of a frame comes of them.
-use Rattle.std.proofs.Common.{◌≡◌, ◌≢◌, ℕ, suc, zero, ◌+◌, ◌≤◌, Bool, true, false, cond, ltb, List, [], ◌∷◌, ◌++◌, length, take, drop, refl, sym, ap, ◌∙◌, arith}
+use Rattle.std.proofs.Common.{◌≡◌, ◌≢◌, ℕ, suc, zero, ◌+◌, ◌≤◌, Bool, true, false, cond, ltb, List, [], ◌++◌, length, take, drop, refl, sym, ap, ◌∙◌, arith}
 use Rattle.std.specs.Prelude.{slice_index}
 use Rattle.std.proofs.lemmas.Bool.{ltb-false}
 use Rattle.std.proofs.lemmas.List.{append-nil}
@@ -7,12 +7,11 @@ use Rattle.byteorder.specs.Endian.{big_number}
 use Rattle.frames.specs.declared.fault.HeaderFault.{HeaderFault}
 use Rattle.frames.specs.declared.request.Head.{Head}
 use Rattle.frames.specs.declared.request.Head.TheVariants as head
-use Rattle.frames.specs.Framing.{EventsAndRest, Fault, Rest, whole_frames}
+use Rattle.frames.specs.Framing.{EventsAndRest, Fault, Rest}
 use Rattle.frames.specs.Requests.{Next, Whole, Cut, Bad, announced, head_of, head_with, next, what_of, with_body}
 use Rattle.frames.proofs.Frames.{framed_whole, framed_cut, framed_bad}
 use Rattle.frames.proofs.Fronts.{head_stays, next_more, next_shorter}
 use Rattle.gateway.specs.Told.{Told}
-use Rattle.gateway.specs.declared.fault.GatewayFault.{GatewayFault}
 use Rattle.gateway.specs.declared.fault.GatewayFault.TheVariants.{Full, HeldFull, Reopen}
 use Rattle.socket_edge.specs.declared.fault.EdgeFault.{EdgeFault}
 use Rattle.socket_edge.specs.declared.fault.EdgeFault.TheVariants.{BadKind, BadInterface, TooLong, Truncated, Input, Output, Gateway}
@@ -63,15 +62,15 @@ module _ (requests given rest : List ℕ) (split : requests ≡ given ++ rest) (
       absurd cc
 
   pub of_turn : (e : EdgeFault) (old new : Told) (sent : List ℕ) → EndsBy e old new given sent (rest ≡ [])
-      → (e ≢ Gateway Reopen) × (e ≢ Gateway HeldFull) × (e ≢ Gateway Full) → IsOfTurn e
-  of_turn BadKind old new sent ends not = none_faulty _ ends.0
-  of_turn BadInterface old new sent ends not = none_faulty _ ends.0
-  of_turn TooLong old new sent ends not = none_faulty _ ends.0
-  of_turn Truncated old new sent ends not =
+      → (e ≢ Gateway Reopen) × (e ≢ Gateway HeldFull) × (e ≢ Gateway Full) → e ≢ Input → IsOfTurn e
+  of_turn BadKind old new sent ends not reads = none_faulty _ ends.0
+  of_turn BadInterface old new sent ends not reads = none_faulty _ ends.0
+  of_turn TooLong old new sent ends not reads = none_faulty _ ends.0
+  of_turn Truncated old new sent ends not reads =
       let same : requests ≡ given = split ∙ ap (λ (x : List ℕ). given ++ x) ends.4 ∙ append-nil given in
       let clash : Rest [] ≡ Rest ends.0 = sym whole ∙ ap remainder_of same ∙ ends.1 in
       let nothing : ends.0 ≡ [] = cc in
       absurd (ends.2 nothing)
-  of_turn Input old new sent ends not = tt
-  of_turn Output old new sent ends not = tt
-  of_turn (Gateway fault) old new sent ends not = (λ is. not.0 (ap Gateway is), λ is. not.1 (ap Gateway is), λ is. not.2 (ap Gateway is))
+  of_turn Input old new sent ends not reads = reads refl
+  of_turn Output old new sent ends not reads = tt
+  of_turn (Gateway fault) old new sent ends not reads = (λ is. not.0 (ap Gateway is), λ is. not.1 (ap Gateway is), λ is. not.2 (ap Gateway is))

@@ -57,13 +57,13 @@ module _ {D : Type 0} (honest : D → Type 0) (moment : D → ℕ) (left : D →
   Turned (Ok done) events headers lan lan' wan wan' = Carries events headers lan lan' wan wan'
   Turned (Err fault) events headers lan lan' wan wan' = Fails events lan lan' wan wan'
 
--- By such a fault a turn may fail: never by one of a frame, as its requests are whole and none is faulty; and of the
--- gateway's by none that says that it had fallen before, or that it has no room.
+-- By such a fault a turn may fail: never by one of a frame, as its requests are whole and none is faulty, or of a read,
+-- as they are at hand; and of the gateway's by none that says that it had fallen before, or that it has no room.
 abbrev pub IsOfTurn : EdgeFault → Type 0
 IsOfTurn BadKind = ⊥
 IsOfTurn BadInterface = ⊥
 IsOfTurn TooLong = ⊥
 IsOfTurn Truncated = ⊥
-IsOfTurn Input = Unit {0}
+IsOfTurn Input = ⊥
 IsOfTurn Output = Unit {0}
 IsOfTurn (Gateway fault) = (fault ≢ Reopen) × (fault ≢ HeldFull) × (fault ≢ Full)

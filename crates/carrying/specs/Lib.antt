@@ -5,3 +5,4 @@ pub mod Counted
 pub mod Runs
 pub mod Lives
 pub mod Noting
+pub mod AtHand

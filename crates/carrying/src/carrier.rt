@@ -1,5 +1,5 @@
 //! A turn: what the devices give is answered, and what leaves is handed to them.
-ghost use Rattle.std.specs.Prelude.{◌≡◌, ◌≢◌, ◌≤◌, ◌<◌, ◌^◌, ◌++◌, ℕ, List, [], None, Some, IfOk, IfErr, IfNone, IfSome, MatchOption, OnOk, false, length};
+ghost use Rattle.std.specs.Prelude.{◌≡◌, ◌≢◌, ◌-◌, ◌≤◌, ◌<◌, ◌^◌, ◌++◌, ℕ, List, [], None, Some, IfOk, IfErr, IfNone, IfSome, MatchOption, OnOk, false, length};
 ghost use Rattle.devices.specs.Handing.{GaveAll};
 ghost use Rattle.from_devices.specs.Requests.{begun, with_load};
 ghost use Rattle.machine.specs.Machine.{later};
@@ -11,6 +11,7 @@ ghost use Rattle.carrying.specs.Counted.{before_wan, CountsIfOk, CountsTurns};
 ghost use Rattle.carrying.specs.Runs.{EachHandsOn, EachTakesAll, Ran, Stood};
 ghost use Rattle.carrying.specs.Turns.{Gave, TakesAll, Turn, events_of, gathered, headers_of};
 
+use crate::at_hand::AtHand;
 use crate::between::Between;
 use crate::drops::{Dropped, Drops};
 use crate::pace::{Beat, Pace};
@@ -110,6 +111,7 @@ fn answer<D: Disk + Drop>(
         → IfErr result (λ e. Explains D.honest D.moment D.left D.failed e gateway.old gateway.new) }
     ensures ended { IfErr result (λ e. (given rest : List ℕ) × (requests.now ≡ given ++ rest)
         × EndsBy e gateway.old.told gateway.new.told given to.new (rest ≡ [])) }
+    ensures reads { length requests.now < 2 ^ 64 - 1 → IfErr result (λ e. e ≢ EdgeFault.Input) }
     ensures causes { gateway.old.fallen ≡ false
         → IfErr result (λ e. (e ≢ EdgeFault.Gateway GatewayFault.Reopen)
         × (e ≢ EdgeFault.Gateway GatewayFault.HeldFull) × (e ≢ EdgeFault.Gateway GatewayFault.Full)) }
@@ -117,8 +119,11 @@ fn answer<D: Disk + Drop>(
     ensures no_failure { OnOk result (D.failed gateway.new.disk ≡ D.failed gateway.old.disk) }
     ensures short { length to.new ≤ 1048576 }
 {
-    let mut rest = requests;
-    let ended = socket_edge::run(alloc, &mut rest, to, gateway);
+    let mut peer = AtHand {
+        requests,
+        answers: to,
+    };
+    let ended = socket_edge::run_with(alloc, &mut peer, gateway);
     // It has no more answers than have room.
     let _ = to.answers();
     match ended {
@@ -165,8 +170,8 @@ impl Carrier {
     ///
     /// # Errors
     ///
-    /// The gateway's own fault, as `socket_edge::run` has it, and never one of a frame. Then nothing is handed on, and
-    /// what was taken is lost.
+    /// The gateway's own fault, as `socket_edge::run` has it, or `Output` if the answers have no room, and never one of a
+    /// frame or a read. Then nothing is handed on, and what was taken is lost.
     pub fn turn<L: Device, W: Device, D: Disk + Drop>(
         &mut self,
         moment: u64,

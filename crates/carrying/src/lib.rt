@@ -6,11 +6,13 @@
 //!
 //! - `carrier`: `Carrier`, the turn and the run;
 //! - `between`: the two devices;
+//! - `at_hand`: the requests of a turn, and what takes their answers, as one peer;
 //! - `pace`: when a turn is to be;
 //! - `drops`: which packets were dropped, at most so many of each moment;
 //! - `laws`: what follows of a run that is stopped.
 #![tactic(auto)]
 
+mod at_hand;
 mod between;
 mod carrier;
 mod drops;

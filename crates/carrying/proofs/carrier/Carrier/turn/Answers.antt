@@ -1,4 +1,4 @@
-use Rattle.std.proofs.Common.{◌≡◌, ◌<◌, ◌^◌, ◌++◌, ℕ, List, sym, ap, subst, ◌∙◌}
+use Rattle.std.proofs.Common.{◌≡◌, ◌<◌, ◌^◌, ◌-◌, ◌++◌, ℕ, List, length, sym, ap, subst, ◌∙◌}
 use Rattle.std.specs.List.{AllByRecursion}
 use Rattle.std.proofs.lemmas.List.{append-nil}
 use Rattle.machine.specs.Machine.{later}
@@ -10,6 +10,7 @@ use Rattle.carrying.specs.Counted.{Carrying}
 use Rattle.carrying.specs.Turns.{events_of}
 use Rattle.carrying.proofs.Settled.{carried, counted, failed, rest_is}
 use Rattle.carrying.proofs.Streamed.{Streams, streams, text_short, turn_fits}
+use Rattle.carrying.proofs.Short.{turn_short}
 use Rattle.carrying.proofs.Unfaulty.{of_turn}
 use Rattle.carrying.proofs.carrier.Carrier.turn.Goals as goal
 
@@ -47,6 +48,7 @@ returns-in-Err-clause-causes g c =
     let fit : AllByRecursion FitsFrame (events_of old.told turn) = turn_fits old.told turn soon fits (text_short c.args.text turn.text c.requires.short p.2) p.3.lan_packets p.3.wan_packets in
     let e = c.in-Err.ensures.ended in
     of_turn c.requests.result.now e.0 e.1 e.2 (rest_is old.told turn c.gather-wan_from.new.from c.requests.result.now s fit c.requests.ensures) c.in-Err.fault c.args.gateway.now.told c.answer.new.gateway.told c.answer.new.to e.3 (c.in-Err.ensures.causes c.requires.stands)
+    (c.in-Err.ensures.reads (subst (λ (xs : List ℕ). length xs < 2 ^ 64 - 1) (sym (c.requests.ensures ∙ s.requests)) (turn_short old.told turn p.5.few_of_lan p.5.few_of_wan fit)))
 
 pub returns-clause-turned : goal.returns-clause-turned
 returns-clause-turned g c =
