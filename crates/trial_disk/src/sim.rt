@@ -1,5 +1,5 @@
 //! `SimDisk`: a disk in memory that can be told to fail and to crash.
-ghost use Rattle.std.specs.Prelude.{◌≡◌, ◌↔◌, ◌⊎◌, ◌+◌, ◌≤◌, ◌<◌, [], length, take, drop, IfOk, OnOk, OnErr, IsOk, ⊤, Some, None};
+ghost use Rattle.std.specs.Prelude.{◌≡◌, ◌↔◌, ◌⊎◌, ◌+◌, ◌≤◌, ◌<◌, [], length, take, drop, IfOk, OnOk, OnErr, IsOk, IsErr, ⊤, Some, None};
 ghost use Rattle.disk_model.specs.Disk.{Synced as IsSynced, Put, TornIn, Goes, Same, Grew, Called, HasCause, LeftNow, pair};
 ghost use Rattle.trial_disk.specs.Recorded.{Wrote, Synced, did, reads};
 ghost use Rattle.trial_disk.specs.Choices.{crashed, restarted};
@@ -111,7 +111,7 @@ impl SimDisk {
         ensures turn { IsOk result → turn_of self.old.meter ≡ Passes }
         ensures err { OnErr result (FailsToWrite file at bytes.now self.old self.new) }
         ensures called { Called 1 self.old.meter.calls self.new.meter.calls }
-        ensures cause { HasCause self.old.meter.failures self.new.meter.failures result }
+        ensures cause { HasCause self.old.meter.failures self.new.meter.failures (IsErr result) }
     {
         match self.meter.tick() {
             Turn::Passes => match self.record.write(file, at, bytes) {
@@ -128,7 +128,7 @@ impl SimDisk {
         ensures turn { IsOk result → turn_of self.old.meter ≡ Passes }
         ensures err { OnErr result (self.new ≡ failing self.old.history self.old) }
         ensures called { Called 1 self.old.meter.calls self.new.meter.calls }
-        ensures cause { HasCause self.old.meter.failures self.new.meter.failures result }
+        ensures cause { HasCause self.old.meter.failures self.new.meter.failures (IsErr result) }
     {
         match self.meter.tick() {
             Turn::Passes => match self.record.sync(file) {
@@ -185,7 +185,7 @@ impl SimDisk {
         ensures err { OnErr result (self.new ≡ failing self.old.history self.old) }
         ensures turn { IsOk result ↔ turn_of self.old.meter ≡ Passes }
         ensures called { Called 1 self.old.meter.calls self.new.meter.calls }
-        ensures cause { HasCause self.old.meter.failures self.new.meter.failures result }
+        ensures cause { HasCause self.old.meter.failures self.new.meter.failures (IsErr result) }
     {
         match self.meter.tick() {
             Turn::Passes => Ok(()),
@@ -224,7 +224,7 @@ impl Disk for SimDisk {
         ensures seen { Same (seen_of self.old) (seen_of self.new) }
         ensures crash { Goes moment_of MayBeLeft self.old self.new Same }
         ensures called { Called 1 self.old.meter.calls self.new.meter.calls }
-        ensures cause { HasCause self.old.meter.failures self.new.meter.failures result }
+        ensures cause { HasCause self.old.meter.failures self.new.meter.failures (IsErr result) }
     {
         self.look()?;
         Ok(self.record.bytes(file).len() as u64)
@@ -240,7 +240,7 @@ impl Disk for SimDisk {
         ensures seen { Same (seen_of self.old) (seen_of self.new) }
         ensures crash { Goes moment_of MayBeLeft self.old self.new Same }
         ensures called { Called 1 self.old.meter.calls self.new.meter.calls }
-        ensures cause { HasCause self.old.meter.failures self.new.meter.failures result }
+        ensures cause { HasCause self.old.meter.failures self.new.meter.failures (IsErr result) }
     {
         self.look()?;
         let file = self.record.bytes(file);
@@ -259,7 +259,7 @@ impl Disk for SimDisk {
         ensures torn { TornIn file at bytes.now (seen_of self.old) (seen_of self.new) }
         ensures crash { Goes moment_of MayBeLeft self.old self.new (TornIn file at bytes.now) }
         ensures called { Called 1 self.old.meter.calls self.new.meter.calls }
-        ensures cause { HasCause self.old.meter.failures self.new.meter.failures result }
+        ensures cause { HasCause self.old.meter.failures self.new.meter.failures (IsErr result) }
     {
         self.write(file, at as usize, bytes)
     }
@@ -273,7 +273,7 @@ impl Disk for SimDisk {
         ensures outcome { LeftNow moment_of MayBeLeft self.old (seen_of self.new) }
         ensures crash { Goes moment_of MayBeLeft self.old self.new Same }
         ensures called { Called 1 self.old.meter.calls self.new.meter.calls }
-        ensures cause { HasCause self.old.meter.failures self.new.meter.failures result }
+        ensures cause { HasCause self.old.meter.failures self.new.meter.failures (IsErr result) }
     {
         self.settle(file)
     }

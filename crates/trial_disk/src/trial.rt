@@ -1,5 +1,5 @@
 //! `Trial`: the disk in memory, with no promise.
-ghost use Rattle.std.specs.Prelude.{◌≡◌, ◌+◌, ◌≤◌, length, IfOk, OnOk, OnErr, IsTrue, Some, None, ⊤, []};
+ghost use Rattle.std.specs.Prelude.{◌≡◌, ◌+◌, ◌≤◌, length, IfOk, OnOk, OnErr, IsErr, IsTrue, Some, None, ⊤, []};
 ghost use Rattle.disk_model.specs.Disk.{HasCause};
 ghost use Rattle.trial_disk.specs.Simulated.{seen_of};
 
@@ -109,7 +109,7 @@ impl Trial {
 
     // A call that fails and touches nothing.
     fn refuse(&mut self, file: FileId) -> Result<(), DiskFault>
-        ensures { HasCause self.old.failures self.new.failures result }
+        ensures { HasCause self.old.failures self.new.failures (IsErr result) }
     {
         self.disk.fail_once(0);
         self.disk.sync(file)
@@ -118,7 +118,7 @@ impl Trial {
 
 // Whether a file has so many bytes from a place on.
 fn reaches(disk: &mut SimDisk, file: FileId, at: u64, count: u64) -> Result<bool, DiskFault>
-    ensures cause { HasCause disk.old.meter.failures disk.new.meter.failures result }
+    ensures cause { HasCause disk.old.meter.failures disk.new.meter.failures (IsErr result) }
     ensures reaches { IfOk result (λ reaches. IsTrue reaches
         → at + count ≤ length (seen_of disk.new file)) }
 {
