@@ -12,3 +12,4 @@ pub mod Runs
 pub mod Behind
 pub mod Stopping
 pub mod Lives
+pub mod Fitting

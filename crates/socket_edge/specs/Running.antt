@@ -1,5 +1,8 @@
 -- What a run does.
 use Rattle.std.specs.Prelude.{◌≡◌, ◌≢◌, ◌⊎◌, ◌≤◌, ◌+◌, ◌-◌, ◌^◌, ℕ, List, [], ◌∷◌, ◌++◌, length, take, false, true, Result, Ok, Err}
+use Rattle.packet.specs.Laws.{AreBytes}
+use Rattle.packet.specs.declared.endpoint.Iface.{Iface}
+use Rattle.machine.specs.declared.event.What.TheVariants.{Packet}
 use Rattle.disk_model.specs.Disk.{Files, Grew, LeavesNow, LeavesOnly}
 use Rattle.durable.specs.Recovery.{IsConfigured}
 use Rattle.machine.specs.Judged.{Judged, AreJudged}
@@ -22,6 +25,13 @@ events_in bytes = (whole_frames bytes).events
 -- what is left behind them, or the fault of the header that stands there
 abbrev pub remainder_of : List ℕ → Remainder
 remainder_of bytes = (whole_frames bytes).remainder
+
+-- of bytes, the packet of each event is bytes too
+abbrev pub PacketsAreBytes : Type 0
+PacketsAreBytes = (bytes : List ℕ) (before : List Event) (event : Event) (after : List Event)
+    (iface : Iface) (packet : List ℕ) → AreBytes bytes
+    → events_in bytes ≡ before ++ event ∷ after
+    → event.what ≡ Packet iface packet → AreBytes packet
 
 -- The events of the bytes were taken. Where nothing was held before, all of them are answered by the bytes sent, and
 -- nothing is held.

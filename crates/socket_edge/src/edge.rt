@@ -6,6 +6,7 @@
 //! is held synced (`serving::close`), and only then writes the answers (`sending::send_before`).
 ghost use Rattle.std.specs.Prelude.{◌≡◌, ◌≢◌, ◌↔◌, ℕ, List, [], ◌++◌, ◌+◌, ◌<◌, ◌≤◌, ◌^◌, true, false, IfOk, IfErr, OnOk, length};
 ghost use Rattle.std.specs.Io.KnownBytes.{Appends, Consumes, IsAtEnd};
+ghost use Rattle.packet.specs.Laws.{AreBytes};
 ghost use Rattle.machine.specs.declared.event.Answer.{Answer};
 ghost use Rattle.frames.specs.Requests.{next, Cut};
 ghost use Rattle.socket_edge.specs.Running.{AnswersFirst, AtEachTurn, Explains, Fares, RunEnded, TurnsEnd, events_in};
@@ -115,7 +116,8 @@ fn read_once<P: Peer, D: Disk + Drop>(
         × ComesByOne D.honest D.moment D.left gateway.old gateway.new
         (events_in (waiting.old.unanswered ++ got)) sent
         × (asks.turns ≡ [] → gateway.new ≡ gateway.old)
-        × ReadBy result asks.turns }
+        × ReadBy result asks.turns
+        × AreBytes got }
     ensures why { IfErr result (λ e. Explains D.honest D.moment D.left D.failed e gateway.old
         gateway.new) }
     ensures stands { OnOk result (gateway.new.fallen ≡ false) }
@@ -165,7 +167,7 @@ pub fn run_with<P: Peer, D: Disk + Drop>(
     gateway: &mut Gateway<D>,
 ) -> Result<u64, EdgeFault>
     // By which turns it went, how the run ended, what a crash leaves of it, that answers came first, what a crash
-    // leaves that comes between two turns, and which turn was the last.
+    // leaves that comes between two turns, which turn was the last, and that what the peer gave is bytes.
     ensures ran { (turns : List Turn) × P.went peer.old peer.new turns
         × RunEnded result gateway.old.told gateway.new.told (given turns) (taken turns)
         (P.ended peer.new)
@@ -173,7 +175,8 @@ pub fn run_with<P: Peer, D: Disk + Drop>(
         (taken turns)
         × AnswersFirst gateway.old.told turns
         × AtEachTurn D.honest D.moment D.left gateway.old gateway.new turns
-        × TurnsEnd result turns }
+        × TurnsEnd result turns
+        × AreBytes (given turns) }
     ensures untouched { gateway.old.fallen ≡ true → peer.new ≡ peer.old }
     ensures why { gateway.old.fallen ≡ false
         → IfErr result (λ e. Explains D.honest D.moment D.left D.failed e gateway.old gateway.new) }
@@ -231,13 +234,15 @@ pub fn run<R: Read, W: Write, D: Disk + Drop>(
     writer: &mut W,
     gateway: &mut Gateway<D>,
 ) -> Result<u64, EdgeFault>
-    // What was read and what was written, how the run ended, and what a crash leaves of it.
+    // What was read and what was written, how the run ended, what a crash leaves of it, and that what was read is
+    // bytes.
     ensures ran { (given written : List ℕ)
         × Consumes (R.remaining reader.old) (R.remaining reader.new) given
         × Appends (W.contents writer.old) (W.contents writer.new) written
         × RunEnded result gateway.old.told gateway.new.told given written
         (IsAtEnd (R.remaining reader.new))
-        × Fares D.honest D.moment D.left gateway.old gateway.new (events_in given) written }
+        × Fares D.honest D.moment D.left gateway.old gateway.new (events_in given) written
+        × AreBytes given }
     ensures why { gateway.old.fallen ≡ false
         → IfErr result (λ e. Explains D.honest D.moment D.left D.failed e gateway.old gateway.new) }
     ensures stands { OnOk result ((gateway.old.fallen ≡ false) × (gateway.new.fallen ≡ false)) }

@@ -1,8 +1,10 @@
 //! What follows from the definitions of `specs/Running`: a run of the edge is part of a life, as `gateway::laws` speaks
-//! of lives.
+//! of lives; and its packets are bytes, as laws of packets ask.
 ghost use Rattle.socket_edge.specs.Lives.{EdgeRunsAreLives, EdgeStopsAreLives};
+ghost use Rattle.socket_edge.specs.Running.{PacketsAreBytes};
 
 use disk_model::Disk;
+use frames::laws::streams_read_exactly;
 
 /// A run of the edge, of a gateway that rests in its life, is a life wherever it is stopped; unless the gateway has
 /// fallen, it rests again after the run, and the next one may follow. So `gateway::laws::lives_are_the_models` holds of
@@ -15,3 +17,11 @@ pub fn runs_are_lives<D: Disk>(_: &D)
     ensures runs { EdgeRunsAreLives D.honest D.moment D.left D.seen }
     ensures stops { EdgeStopsAreLives D.honest D.moment D.left D.seen }
 {}
+
+/// The packet of each event that is read from bytes is bytes. What a run reads is (`ran` of `run_with` and `run`), so the
+/// laws of a packet that ask this (`AreBytes`, as `packet::laws::packets_fit` does) hold of each packet of a run.
+pub fn packets_are_bytes()
+    ensures { PacketsAreBytes }
+{
+    streams_read_exactly();
+}

@@ -9,6 +9,7 @@
 //! request at their front where it lies (`answering::answer_request`), and moves its answer's frame behind the others.
 //! `release` says that the held answers are handed out. `answered` is what may be written.
 ghost use Rattle.std.specs.Prelude.{◌≡◌, ◌≢◌, ◌+◌, ◌<◌, ◌≤◌, ◌++◌, ◌∷◌, [], ℕ, List, IfErr, IfOk, OnOk, OnErr, length, take, drop, true, false};
+ghost use Rattle.packet.specs.Laws.{AreBytes};
 ghost use Rattle.gateway.specs.Running.{BreaksOff, CarriesOn};
 ghost use Rattle.machine.specs.declared.event.Answer.{Answer};
 ghost use Rattle.machine.specs.declared.event.Event.{Event};
@@ -175,7 +176,7 @@ impl Waiting {
               held = [];
               unanswered = self.old.unanswered ++ got;
             })
-            × (n ≡ length got) × (n ≤ 65536)) }
+            × (n ≡ length got) × (n ≤ 65536) × AreBytes got) }
         ensures end { IfOk result (λ n. n ≡ 0 → P.ended peer.new) }
         ensures err { OnErr result (self.new ≡ record self.old { answered = []; held = [] }) }
         ensures unasked { IfErr result (λ e. e ≡ Unread.NoMemory → peer.new ≡ peer.old) }
@@ -288,6 +289,11 @@ fn make_room(bytes: &mut Vec<u8>, len: usize, size: usize) -> Result<(), AllocEr
     bytes.resize(end, 0)
 }
 
+/// The proof of `read_behind` needs the range of bytes, which a function over `&[u8]` knows.
+fn bytes_fit(bytes: &[u8])
+    ensures { AreBytes bytes.now }
+{}
+
 /// Asks once for `size` bytes, puts what comes behind the first `len`, and says how many bytes came.
 fn read_behind<P: Peer>(
     bytes: &mut [u8],
@@ -300,13 +306,16 @@ fn read_behind<P: Peer>(
     ensures len { length bytes.new ≡ length bytes.old }
     ensures ok { IfOk result (λ n. (got : List ℕ)
         × P.went peer.old peer.new (Gave got ∷ [])
-        × (take (len + n) bytes.new ≡ take len bytes.old ++ got) × (n ≡ length got) × (n ≤ size)) }
+        × (take (len + n) bytes.new ≡ take len bytes.old ++ got) × (n ≡ length got) × (n ≤ size)
+        × AreBytes got) }
     ensures end { IfOk result (λ n. n ≡ 0 → P.ended peer.new) }
     ensures err { OnErr result (take len bytes.new ≡ take len bytes.old) }
     ensures failed { IfErr result (λ e. (e ≡ Unread.Failed)
         × P.went peer.old peer.new (ReadFailed ∷ [])) }
 {
-    match peer.read(&mut bytes[len..len + size]) {
+    let came = peer.read(&mut bytes[len..len + size]);
+    bytes_fit(bytes);
+    match came {
         Ok(n) => Ok(n),
         Err(_) => Err(Unread::Failed),
     }

@@ -9,6 +9,7 @@ use Rattle.socket_edge.proofs.Talks.{asked-and-ends, asked-and-sent, asked-at-en
 use Rattle.socket_edge.proofs.Answers.{AnsweredFirst-nothing}
 use Rattle.socket_edge.proofs.Runs.{EndsBy-seen, nothing, nothing_stops, nothing_counts}
 use Rattle.socket_edge.proofs.Stopping.{by-one-end}
+use Rattle.socket_edge.proofs.Fitting.{none-fit}
 use Rattle.socket_edge.proofs.Tending.{idle-fares}
 use Rattle.socket_edge.proofs.edge.read_once.Goals as goal
 
@@ -34,6 +35,7 @@ returns-in-Err-NoMemory-clause-came g c =
           (idle-fares g.D.Disk.honest g.D.Disk.moment g.D.Disk.left g.D.Disk.seen g.D.Disk.failed g.met.D.Disk.reads g.met.D.Disk.earlier c.args.gateway.now c.stands.ensures (events_in (c.args.waiting.now.unanswered ++ []))),
       (λ none. refl),
       k.1,
+      none-fit,
     )
 
 pub returns-in-Err-Failed-clause-came : goal.returns-in-Err-Failed-clause-came
@@ -48,6 +50,7 @@ returns-in-Err-Failed-clause-came g c =
           (idle-fares g.D.Disk.honest g.D.Disk.moment g.D.Disk.left g.D.Disk.seen g.D.Disk.failed g.met.D.Disk.reads g.met.D.Disk.earlier c.args.gateway.now c.stands.ensures (events_in (c.args.waiting.now.unanswered ++ []))),
       (λ none. refl),
       k.1,
+      none-fit,
     )
 
 pub returns-then-is_empty-clause-came : goal.returns-then-is_empty-clause-came
@@ -73,6 +76,7 @@ returns-then-is_empty-clause-came g c =
           (idle-fares g.D.Disk.honest g.D.Disk.moment g.D.Disk.left g.D.Disk.seen g.D.Disk.failed g.met.D.Disk.reads g.met.D.Disk.earlier c.args.gateway.now c.stands.ensures (events_in (c.args.waiting.now.unanswered ++ []))),
       (λ none. refl),
       k.1,
+      none-fit,
     )
 
 pub returns-then-n-eq0-clause-came : goal.returns-then-n-eq0-clause-came
@@ -93,6 +97,7 @@ returns-then-n-eq0-clause-came g c =
           (idle-fares g.D.Disk.honest g.D.Disk.moment g.D.Disk.left g.D.Disk.seen g.D.Disk.failed g.met.D.Disk.reads g.met.D.Disk.earlier c.args.gateway.now c.stands.ensures (events_in (c.args.waiting.now.unanswered ++ []))),
       (λ none. refl),
       k.1,
+      none-fit,
     )
 
 pub returns-in-Ok-answer_read-clause-came : goal.returns-in-Ok-answer_read-clause-came
@@ -109,6 +114,7 @@ returns-in-Ok-answer_read-clause-came g c =
       subst (λ (bytes : List ℕ). ComesByOne g.D.Disk.honest g.D.Disk.moment g.D.Disk.left c.args.gateway.now c.answer_read.new.gateway (events_in bytes) s.0) same s.4,
       (λ none. absurd (k.1 none)),
       k.2,
+      b.5,
     )
 
 pub returns-in-Err-clause-came : goal.returns-in-Err-clause-came
@@ -126,4 +132,5 @@ returns-in-Err-clause-came g c =
       subst (λ (bytes : List ℕ). ComesByOne g.D.Disk.honest g.D.Disk.moment g.D.Disk.left c.args.gateway.now c.answer_read.new.gateway (events_in bytes) s.0) same s.4,
       (λ none. absurd (k.1 none)),
       k.2,
+      b.5,
     )

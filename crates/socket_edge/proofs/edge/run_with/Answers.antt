@@ -1,10 +1,12 @@
 use Rattle.std.proofs.Common.{◌≡◌, ◌+◌, [], ◌++◌, ℕ, List, Ok, Err, inl, inr, refl, arith, sym, subst, ◌∙◌}
+use Rattle.packet.specs.Laws.{AreBytes}
 use Rattle.socket_edge.specs.Running.{AllAnswered, Answered, EndsBy, Fares, TurnsEnd, events_in}
 use Rattle.socket_edge.specs.Turns.{Gave}
 use Rattle.socket_edge.proofs.Stopping.{stops-nil, walked-first, walked-then}
 use Rattle.socket_edge.proofs.Talks.{Counted, counted_then, fault_then, first-nil, last_then, told}
 use Rattle.socket_edge.proofs.Answers.{AnsweredFirst-nothing}
 use Rattle.socket_edge.proofs.Runs.{AllAnswered-then, EndsBy-then, Served-answered, fallen-fares, going-ends, going-first, going-next, going-stops}
+use Rattle.socket_edge.proofs.Fitting.{fit-then, none-fit}
 use Rattle.socket_edge.proofs.Tending.{idle-fares}
 use Rattle.socket_edge.proofs.edge.run_with.Goals as goal
 
@@ -21,6 +23,7 @@ returns-then-has_fallen-clause-ran g c = (
   first-nil c.args.gateway.now.told,
   stops-nil g.D.Disk.honest g.D.Disk.moment g.D.Disk.left g.met.D.Disk.earlier g.P.Peer.went c.args.gateway.now,
   inl tt,
+  none-fit,
 )
 
 pub loop-init : goal.loop-init
@@ -30,6 +33,7 @@ loop-init g c = (
   walked-first g.D.Disk.honest g.D.Disk.moment g.D.Disk.left g.met.D.Disk.earlier g.P.Peer.went g.met.P.Peer.still c.args.gateway.now c.args.peer.now
       (idle-fares g.D.Disk.honest g.D.Disk.moment g.D.Disk.left g.D.Disk.seen g.D.Disk.failed g.met.D.Disk.reads g.met.D.Disk.earlier c.args.gateway.now c.stands.ensures (events_in [])) (Counted 0) (tt, refl),
   rw c.new-waiting.ensures (going-first g.D.Disk.honest g.D.Disk.moment g.D.Disk.left g.D.Disk.failed g.met.D.Disk.earlier c.args.gateway.now c.stands.ensures),
+  none-fit,
 )
 
 pub returns-in-Ok-End-clause-ran : goal.returns-in-Ok-End-clause-ran
@@ -52,6 +56,7 @@ returns-in-Ok-End-clause-ran g c =
       k.first,
       w.stops,
       w.are,
+      so (λ (x y : List ℕ). AreBytes x) (fit-then i.0 t.0 i.4 t.8),
     )
 
 pub returns-in-Err-clause-ran : goal.returns-in-Err-clause-ran
@@ -73,6 +78,7 @@ returns-in-Err-clause-ran g c =
       k.first,
       w.stops,
       w.are,
+      so (λ (x y : List ℕ). AreBytes x) (fit-then i.0 t.0 i.4 t.8),
     )
 
 pub loop-preserved : goal.loop-preserved
@@ -86,6 +92,7 @@ loop-preserved g c =
           (Counted (c.loop.counter + 1)) (counted_then c.loop.counter i.2.talked.turns t.2.turns i.2.are t.7),
       rw c.sum-count.ensures (going-next g.D.Disk.honest g.D.Disk.moment g.D.Disk.left g.D.Disk.failed g.met.D.Disk.earlier c.args.gateway.now c.loop.gateway c.read_once.new.gateway i.0 c.loop.waiting.unanswered t.0 c.read_once.new.waiting.unanswered i.1 t.1 c.loop.count c.in-Ok-More.more i.3 t.3 t.4
           c.in-Ok-More.ensures.stands c.in-Ok-More.ensures.no_failure (c.in-Ok-More.ensures.grown (λ is. absurd cc))),
+      fit-then i.0 t.0 i.4 t.8,
     )
 
 pub returns-clause-ran : goal.returns-clause-ran
@@ -102,4 +109,5 @@ returns-clause-ran g c =
       k.first,
       i.2.stops,
       inr (refl, i.2.are.0, omega (arith, i.2.are.1, c.loop-test.false, c.loop.auto.counter-end)),
+      so (λ (x y : List ℕ). AreBytes x) i.4,
     )

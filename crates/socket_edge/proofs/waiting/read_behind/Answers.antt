@@ -2,6 +2,7 @@ use Rattle.std.proofs.Common.{◌≡◌, ◌+◌, ◌≤◌, ◌++◌, List, ℕ
 use Rattle.std.proofs.lemmas.Grind.{common_steps}
 use Rattle.std.proofs.lemmas.List.{length-take-le, take-append-le}
 use Rattle.std.proofs.Math.Seq.{take-append-add}
+use Rattle.socket_edge.proofs.Fitting.{came-fit}
 use Rattle.socket_edge.proofs.waiting.read_behind.Goals as goal
 
 -- what stands before, and the bytes that came behind it
@@ -13,11 +14,12 @@ front_then len n old came rest within few =
 pub returns-in-Ok-clause-ok : goal.returns-in-Ok-clause-ok
 returns-in-Ok-clause-ok g c =
     let n = c.in-Ok.n in
-    let few : n ≤ length c.read.new.bytes = c.in-Ok.ensures.bound.0 in
-    let room : length c.read.new.bytes ≤ c.args.size = grind (arith, common_steps) in (
-      take n c.read.new.bytes,
+    let few : n ≤ length c.read-came.new.bytes = c.in-Ok.ensures.bound.0 in
+    let room : length c.read-came.new.bytes ≤ c.args.size = grind (arith, common_steps) in (
+      take n c.read-came.new.bytes,
       c.in-Ok.ensures.went,
-      front_then c.args.len n c.args.bytes.now c.read.new.bytes _ (omega (arith, c.requires.room)) few,
+      front_then c.args.len n c.args.bytes.now c.read-came.new.bytes _ (omega (arith, c.requires.room)) few,
       c.in-Ok.ensures.bound.1,
       omega (arith, few, room),
+      came-fit _ c.read-came.new.bytes _ n c.bytes_fit.ensures,
     )

@@ -24,6 +24,7 @@ returns-in-Ok-clause-ok g c =
           ∙ ap (λ (x : Exchange). record { answered = x.answered; held = x.held; unanswered = x.unanswered ++ it.0 }) (c.self.view_is ∙ c.move_to_front.ensures),
       it.3,
       omega (arith, it.4, i.5),
+      it.5,
     )
 
 pub returns-in-Err-clause-err : goal.returns-in-Err-clause-err
