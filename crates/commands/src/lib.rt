@@ -28,5 +28,5 @@ pub use onlooking::{look_in, look_on};
 pub use opening::{AnewFault, open, open_anew, open_over, tell_migration};
 pub use running::{keep_freed_memory, let_go, run, tell_opened};
 pub use showing::{show, tell_of};
-pub use sockets::{bind, bind_for, loop_back};
+pub use sockets::{Loop, bind, bind_for, loop_back};
 pub use streams::{replay, tell_end};

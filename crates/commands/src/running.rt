@@ -7,7 +7,7 @@ use crate::onlooking::look_in;
 use crate::opening::{open, open_anew, tell_migration};
 use crate::replay;
 use crate::showing::tell_of;
-use crate::sockets::{bind, bind_for, loop_back};
+use crate::sockets::{Loop, bind, bind_for, loop_back};
 use checking::{bounds, check, read_file, read_given};
 use disk_model::Disk;
 use file_disk::{FileDisk, Strayed, others_may_write};
@@ -258,16 +258,12 @@ fn loop_in<D: Disk + Drop>(
     let socket = format!(in alloc; "{directory}/natgw.sock")?;
     let listener = bind(rt, alloc, socket.as_str())?;
     let own = identity(rt, socket.as_str());
-    let looped = loop_back(
-        rt,
-        alloc,
+    let way = Loop {
         listener,
-        socket.as_str(),
+        path: socket.as_str(),
         requests,
-        &mut rt.stdout(),
-        &mut rt.stderr(),
-        gateway,
-    );
+    };
+    let looped = loop_back(rt, alloc, way, &mut rt.stdout(), &mut rt.stderr(), gateway);
     let removed = remove(rt, alloc, socket.as_str(), own);
     looped.and(removed)
 }

@@ -140,6 +140,17 @@ fn print_answers<W: Write>(
     }
 }
 
+/// A socket that this program listens to, and what it sends through it to itself.
+#[derive(Drop)]
+pub struct Loop<'a> {
+    /// The socket.
+    pub listener: UnixListener,
+    /// Its path.
+    pub path: &'a str,
+    /// The requests that are sent through it.
+    pub requests: &'a [u8],
+}
+
 /// Sends requests through a socket that this program listens to, answers them, and prints the answers. They have to fit
 /// the socket unread, as those to 2,048 bytes do.
 ///
@@ -150,9 +161,7 @@ fn print_answers<W: Write>(
 pub fn loop_back<R: Net, W: Write, E: Write, D: Disk + Drop>(
     rt: &R,
     alloc: Global,
-    listener: UnixListener,
-    path: &str,
-    requests: &[u8],
+    way: Loop<'_>,
     output: &mut W,
     errors: &mut E,
     gateway: &mut Gateway<D>,
@@ -162,6 +171,11 @@ pub fn loop_back<R: Net, W: Write, E: Write, D: Disk + Drop>(
     ensures stands { OnOk result (gateway.old.fallen ≡ false → gateway.new.fallen ≡ false) }
     ensures causes { IfErr result (λ stop. IsOfLooping stop.refusal) }
 {
+    let Loop {
+        listener,
+        path,
+        requests,
+    } = way;
     let client = match client_of(rt, path, requests) {
         Ok(client) => client,
         Err(error) => return Err(Stop::at_path(alloc, path, "takes no requests", &error)),

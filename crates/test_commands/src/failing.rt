@@ -2,7 +2,7 @@
 use crate::serve_and_loop::{bound, client};
 use crate::shared::{REQUESTS, SIDES, fresh};
 use checking::bounds;
-use commands::{loop_back, serve_clients};
+use commands::{Loop, loop_back, serve_clients};
 use gateway::Gateway;
 use refusals::{Refusal, Stop};
 use std::alloc::{AllocError, AllocFailed, Global};
@@ -128,16 +128,12 @@ fn is_cut_off<W: Write>(
     let requests = requests(alloc)?;
     let listener = bound(rt, path)?;
     let mut errors = Vec::new(alloc);
-    let looped = loop_back(
-        rt,
-        alloc,
+    let way = Loop {
         listener,
         path,
-        requests.as_slice(),
-        output,
-        &mut errors,
-        gateway,
-    );
+        requests: requests.as_slice(),
+    };
+    let looped = loop_back(rt, alloc, way, output, &mut errors, gateway);
     Ok(is_device(&looped) && errors.is_empty())
 }
 

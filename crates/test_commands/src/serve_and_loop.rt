@@ -1,6 +1,6 @@
 //! Requests through sockets.
 use crate::shared::{ANSWERS, OverFiles, REQUESTS, SIDES, close, fresh, opened};
-use commands::{bind, loop_back, replay, serve_clients, tell_end};
+use commands::{Loop, bind, loop_back, replay, serve_clients, tell_end};
 use gateway::GatewayFault;
 use refusals::{Refusal, Stop};
 use socket_edge::EdgeFault;
@@ -60,16 +60,12 @@ fn is_looped(rt: &HostRuntime, gateway: &mut OverFiles, path: &str) -> Result<bo
     let listener = bound(rt, path)?;
     let mut output = Vec::new(alloc);
     let mut errors = Vec::new(alloc);
-    loop_back(
-        rt,
-        alloc,
+    let way = Loop {
         listener,
         path,
-        REQUESTS,
-        &mut output,
-        &mut errors,
-        gateway,
-    )?;
+        requests: REQUESTS,
+    };
+    loop_back(rt, alloc, way, &mut output, &mut errors, gateway)?;
     Ok(output.as_slice() == ANSWERS && errors.is_empty())
 }
 
