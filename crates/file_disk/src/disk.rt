@@ -1,5 +1,5 @@
 //! The disk over two files.
-ghost use Rattle.std.specs.Prelude.{◌≡◌, ◌≤◌, ◌+◌, ◌⊎◌, [], None, length, OnOk, OnErr, IfSome};
+ghost use Rattle.std.specs.Prelude.{◌≡◌, ◌≤◌, ◌+◌, ◌⊎◌, [], None, length, OnOk, OnErr, IfSome, IsErr};
 ghost use Rattle.disk_model.specs.Disk.{Called, Grew, HasCause, Goes, Put, TornIn};
 ghost use Rattle.file_disk.specs.Filed.{Filed, Asks, OfBoth, both_hold, file_of, moment_of, LeftSince};
 ghost use Rattle.file_disk.specs.OneFile.{Measures, Fills, Puts, Syncs};
@@ -82,7 +82,7 @@ impl<F: DiskFile + Drop> FileDisk<F> {
         ensures files { self.new.files ≡ self.old.files }
         ensures strayed { self.new.strayed ≡ self.old.strayed }
         ensures called { Called 1 self.old.calls self.new.calls }
-        ensures cause { HasCause self.old.failures self.new.failures result }
+        ensures cause { HasCause self.old.failures self.new.failures (IsErr result) }
     {
         match answer {
             Ok(value) => {
@@ -98,7 +98,7 @@ impl<F: DiskFile + Drop> FileDisk<F> {
         ensures asked { Asks (λ old new. Measures F.honest F.holds F.leaves result old new) file
             self.old.files self.new.files }
         ensures called { Called 1 self.old.calls self.new.calls }
-        ensures cause { HasCause self.old.failures self.new.failures result }
+        ensures cause { HasCause self.old.failures self.new.failures (IsErr result) }
     {
         let answer = self.files.len(file);
         self.count(answer)
@@ -109,7 +109,7 @@ impl<F: DiskFile + Drop> FileDisk<F> {
         ensures asked { Asks (λ old new. Fills F.honest F.holds F.leaves at bytes.old bytes.new
             result old new) file self.old.files self.new.files }
         ensures called { Called 1 self.old.calls self.new.calls }
-        ensures cause { HasCause self.old.failures self.new.failures result }
+        ensures cause { HasCause self.old.failures self.new.failures (IsErr result) }
     {
         let answer = self.files.read_at(file, at, bytes);
         self.count(answer)
@@ -121,7 +121,7 @@ impl<F: DiskFile + Drop> FileDisk<F> {
             new) file self.old.files self.new.files }
         ensures strayed { self.new.strayed ≡ self.old.strayed }
         ensures called { Called 1 self.old.calls self.new.calls }
-        ensures cause { HasCause self.old.failures self.new.failures result }
+        ensures cause { HasCause self.old.failures self.new.failures (IsErr result) }
     {
         let answer = self.files.write_at(file, at, bytes);
         self.count(answer)
@@ -132,7 +132,7 @@ impl<F: DiskFile + Drop> FileDisk<F> {
         ensures asked { Asks (λ old new. Syncs F.honest F.holds F.leaves result old new) file
             self.old.files self.new.files }
         ensures called { Called 1 self.old.calls self.new.calls }
-        ensures cause { HasCause self.old.failures self.new.failures result }
+        ensures cause { HasCause self.old.failures self.new.failures (IsErr result) }
     {
         let answer = self.files.sync(file);
         self.count(answer)
@@ -148,7 +148,7 @@ impl<F: DiskFile + Drop> FileDisk<F> {
         ensures strayed { OfBoth F.honest self.old → (self.new.strayed ≡ self.old.strayed)
             ⊎ IfSome self.new.strayed (λ file. ¬ F.in_place (file_of self.old.files file)) }
         ensures called { OnErr result (Called 1 self.old.calls self.new.calls) }
-        ensures cause { HasCause self.old.failures self.new.failures result }
+        ensures cause { HasCause self.old.failures self.new.failures (IsErr result) }
     {
         if at != 0 {
             return Ok(());
@@ -206,7 +206,7 @@ impl<F: DiskFile + Drop> Disk for FileDisk<F> {
         ensures crash { OfBoth F.honest self.old → Goes moment_of (LeftSince F.leaves) self.old
             self.new (TornIn file at bytes.now) }
         ensures called { OfBoth F.honest self.old → Called 1 self.old.calls self.new.calls }
-        ensures cause { HasCause self.old.failures self.new.failures result }
+        ensures cause { HasCause self.old.failures self.new.failures (IsErr result) }
         ensures in_place { OfBoth F.honest self.old → at ≡ 0
             → OnOk result (OfBoth F.in_place self.old) }
         ensures strayed { OfBoth F.honest self.old → (self.new.strayed ≡ self.old.strayed)
