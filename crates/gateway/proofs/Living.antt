@@ -4,7 +4,7 @@ use Rattle.std.specs.Prelude.{IfErr, IfOk, IsErrOf, MatchResult, OnErr, OnOk}
 use Rattle.std.proofs.lemmas.List.{append-nil, length-take-le, take-append-drop}
 use Rattle.std.proofs.Math.Seq.{take-append-add}
 use Rattle.packet.specs.Config.{Config}
-use Rattle.disk_model.specs.Disk.{Files, Leaves, LeavesNow, LeavesOnly}
+use Rattle.disk_model.specs.Disk.{Files, HasCause, Leaves, LeavesNow, LeavesOnly}
 use Rattle.disk_model.proofs.Moments.{narrows, only_now}
 use Rattle.durable.specs.Entering.{Durable}
 use Rattle.durable.specs.Recovery.{Alike, IsConfigured, Recovers}
@@ -377,11 +377,11 @@ module _ {D : Type 0} (honest : D → Type 0) (moment : D → ℕ) (left : D →
     -- a compaction
     module _ (any : old.fallen ≡ false → honest old.disk → LeavesOnly moment left old.disk new.disk (λ files. Recovers files (lasting old.told.state))) (same : new.told ≡ old.told) where
       pub compacted-in-life : {T : Type 0} (r : Result T GatewayFault) → old.told.held ≡ [] → IsErrOf r fault.Device ↔ ((old.fallen ≡ false) × (new.fallen ≡ true))
-          → OnOk r (failed new.disk ≡ failed old.disk) → OnOk r (GoesOnInLife honest moment left seen failed old new [])
-      compacted-in-life (Err e) none fell no_failure = tt
-      compacted-in-life (Ok a) none fell no_failure = goes-on-in-life [] (λ start events out s.
+          → HasCause (failed old.disk) (failed new.disk) (IsErrOf r fault.Device) → OnOk r (GoesOnInLife honest moment left seen failed old new [])
+      compacted-in-life (Err e) none fell cause = tt
+      compacted-in-life (Ok a) none fell cause = goes-on-in-life [] (λ start events out s.
           subst (λ (l : List (ℕ × Answer)). Stands honest moment left failed start new events l) (sym (append-nil out))
-          (compacted honest moment left seen failed reads earlier start old events out s new was stays conf any same none (stands-still a fault.Device new.fallen fell s.stands) no_failure))
+          (compacted honest moment left seen failed reads earlier start old events out s new was stays conf any same none (stands-still a fault.Device new.fallen fell s.stands) (cause.others (λ told. absurd cc))))
 
       pub compact-ends : {T : Type 0} (r : Result T GatewayFault) → OnErr r (EndsLife honest moment left seen failed old new)
       compact-ends (Ok a) = tt

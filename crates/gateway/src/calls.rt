@@ -11,7 +11,7 @@
 //! - `run`: `running::take_all` does these calls for a list of events.
 ghost use Rattle.std.specs.Prelude.{◌≡◌, ◌≢◌, ◌↔◌, ◌⊎◌, ◌+◌, ◌-◌, ◌^◌, ◌<◌, ◌≤◌, ◌++◌, ◌∷◌, [], ℕ, List, IfOk, IfErr, IfNone, IfSome, OnOk, OnErr, OnSome, IsOk, IsErrOf, MatchResult, IsTrue, length, true, false};
 ghost use Rattle.packet.specs.Config.{is_config};
-ghost use Rattle.disk_model.specs.Disk.{Leaves, LeavesNow, LeavesOnly, Looks, Same, Called, Grew};
+ghost use Rattle.disk_model.specs.Disk.{Leaves, LeavesNow, LeavesOnly, Looks, Same, Called, Grew, HasCause};
 ghost use Rattle.durable.specs.Coding.{Entry, body_bytes};
 ghost use Rattle.durable.specs.Entering.{Durable, IsDurable};
 ghost use Rattle.durable.specs.Recovery.{Alike, IsConfigured, IsCurrent, NoneOpen, Recovers};
@@ -174,14 +174,10 @@ impl<D: Disk + Drop> Gateway<D> {
         ensures unwritten { D.honest disk → ¬ MayWrite bounds (D.seen disk)
             → MatchResult result (λ g. Leaves D.moment D.left disk g.disk Same)
             (λ e. Leaves D.moment D.left disk e.0 Same) }
-        ensures device { IfErr result (λ e. e.1 ≡ OpenFault.Device
-            → Grew (D.failed disk) (D.failed e.0)) }
 
         // No call of the disk follows one that has failed, since that one might fail too.
-        ensures by_one { IfErr result (λ e. D.failed e.0 ≤ D.failed disk + 1) }
-        ensures only_device { IfErr result (λ e. e.1 ≢ OpenFault.Device
-            → D.failed e.0 ≡ D.failed disk) }
-        ensures no_failure { IfOk result (λ g. D.failed g.disk ≡ D.failed disk) }
+        ensures cause { MatchResult result (λ g. D.failed g.disk ≡ D.failed disk)
+            (λ e. HasCause (D.failed disk) (D.failed e.0) (e.1 ≡ OpenFault.Device)) }
     {
         match Store::open(alloc, disk, &bounds) {
             Ok(
@@ -669,10 +665,8 @@ impl<D: Disk + Drop> Gateway<D> {
             ↔ ((self.old.fallen ≡ false) × (self.new.fallen ≡ true)) }
         ensures causes { IfErr result (λ e. (e ≡ GatewayFault.Reopen) ⊎ (e ≡ GatewayFault.NoMemory)
             ⊎ (e ≡ GatewayFault.Device) ⊎ (e ≡ GatewayFault.Generations)) }
-        ensures device { IsErrOf result GatewayFault.Device
-            → Grew (D.failed self.old.disk) (D.failed self.new.disk) }
-        ensures by_one { D.failed self.new.disk ≤ D.failed self.old.disk + 1 }
-        ensures no_failure { OnOk result (D.failed self.new.disk ≡ D.failed self.old.disk) }
+        ensures cause { HasCause (D.failed self.old.disk) (D.failed self.new.disk)
+            (IsErrOf result GatewayFault.Device) }
         ensures called { D.honest self.old.disk
             → OnOk result (Called 6 (D.called self.old.disk) (D.called self.new.disk)) }
     {

@@ -38,5 +38,5 @@ returns-in-Err-clause-causes g c =
       why,
       c.of_gateway.ensures,
       compacted-meets-none g.D.Disk.honest g.D.Disk.moment g.D.Disk.left g.D.Disk.seen g.D.Disk.failed g.met.D.Disk.reads g.met.D.Disk.earlier c.args.gateway.now c.stands.ensures c.compact.new.self
-          why (fault-is why fault.Reopen e.reopen) (fault-is why fault.Device e.fell) e.causes (λ is. e.device (ap Err is)) e.by_one (λ is. e.generations (ap Err is)) e.stays room grown,
+          why (fault-is why fault.Reopen e.reopen) (fault-is why fault.Device e.fell) e.causes (λ is. e.cause.failed (ap Err is)) e.cause.by_one (λ is. e.generations (ap Err is)) e.stays room grown,
     )

@@ -94,8 +94,8 @@ returns-in-Err-clause-cause g c =
       cause = λ honest. record { damaged = e.damaged honest; differs = λ is. (e.differs honest is).2; generations = e.generations honest };
       looks = e.looks;
       unwritten = e.unwritten;
-      device = e.device;
-      only_device = e.only_device;
+      device = e.cause.failed;
+      only_device = e.cause.others;
       stays_honest = e.stays_honest;
     }
 
@@ -120,7 +120,7 @@ returns-in-Err-made-clause-cause g c =
           let stands = c.has_fallen-stands.ensures.value ∙ o.stands in
           let groups = c.has_fallen-stands.ensures.groups stands (o.honest.0 honest) in
           is_last old (g.D.Disk.seen found.disk) found.generation found.grown groups.0 (o.only_looks honest open_so current).stays current groups.1 (m.generations (ap Err is));
-      device = λ is. subst (λ (n : ℕ). Grew n (failed c.into_disk.result)) o.no_failure (subst (λ disk. Grew (failed found.disk) (failed disk)) (sym same) (m.device (ap Err is)));
-      only_device = λ other. ap failed same ∙ ap (λ (k : Kept _). failed k.disk) (m.stays other) ∙ o.no_failure;
+      device = λ is. subst (λ (n : ℕ). Grew n (failed c.into_disk.result)) o.cause (subst (λ disk. Grew (failed found.disk) (failed disk)) (sym same) (m.cause.failed (ap Err is)));
+      only_device = λ other. ap failed same ∙ ap (λ (k : Kept _). failed k.disk) (m.stays other) ∙ o.cause;
       stays_honest = λ other honest. subst g.D.Disk.honest (sym (same ∙ ap (λ (k : Kept _). k.disk) (m.stays other))) (o.honest.0 honest);
     }

@@ -17,7 +17,7 @@ returns-in_err-compact-clause-err g c =
       ends = compact-stopped g.D.Disk.honest g.D.Disk.moment g.D.Disk.left g.D.Disk.seen g.D.Disk.failed g.met.D.Disk.reads g.met.D.Disk.earlier start
           c.args.gateway.now events before s c.compact.new.self e.honest e.stays_honest e.configured e.any_moment e.told;
       is_why = compact-why g.D.Disk.honest g.D.Disk.moment g.D.Disk.left g.D.Disk.seen g.D.Disk.failed g.met.D.Disk.reads g.met.D.Disk.earlier start
-          c.args.gateway.now events before s c.compact.new.self why (fault-is why fault.Reopen e.reopen) (fault-is why fault.Device e.fell) e.causes (λ is. e.device (ap Err is)) e.by_one
+          c.args.gateway.now events before s c.compact.new.self why (fault-is why fault.Reopen e.reopen) (fault-is why fault.Device e.fell) e.causes (λ is. e.cause.failed (ap Err is)) e.cause.by_one
           (λ is. ap (λ n. n.generation) (e.stays (λ d. let bad : fault.Generations ≡ fault.Device = sym is ∙ d in absurd cc)) ∙ e.generations (ap Err is));
       stays = λ other. subst (λ (n : Kept _). Stands g.D.Disk.honest g.D.Disk.moment g.D.Disk.left g.D.Disk.failed start n events before) (sym (e.stays other)) s;
     }))
@@ -28,7 +28,7 @@ returns-clause-ok g c =
     λ before. carries-none g.D.Disk.honest g.D.Disk.moment g.D.Disk.left g.D.Disk.failed c.args.gateway.now c.compact.new.self before before
     (λ start events s. compacted g.D.Disk.honest g.D.Disk.moment g.D.Disk.left g.D.Disk.seen g.D.Disk.failed g.met.D.Disk.reads g.met.D.Disk.earlier start
     c.args.gateway.now events before s c.compact.new.self e.honest e.stays_honest e.configured e.any_moment e.told c.requires.none
-    (stands-still c.in_ok-compact.field-0 fault.Device c.compact.new.self.fallen e.fell c.requires.stands) e.no_failure)
+    (stands-still c.in_ok-compact.field-0 fault.Device c.compact.new.self.fallen e.fell c.requires.stands) (e.cause.others (λ told. absurd cc)))
 
 pub returns-in_err-compact-clause-any_moment : goal.returns-in_err-compact-clause-any_moment
 returns-in_err-compact-clause-any_moment g c = λ before start events s ready.
