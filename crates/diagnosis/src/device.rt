@@ -1,7 +1,7 @@
 //! What the files of a disk are.
-ghost use Rattle.std.specs.Prelude.{◌≡◌, ◌≤◌, IfOk, OnOk, IsErrOf};
+ghost use Rattle.std.specs.Prelude.{IfOk, IsErrOf};
 ghost use Rattle.disk_model.specs.declared.disk.FileId.TheVariants.{A, B};
-ghost use Rattle.disk_model.specs.Disk.{Looks, Grew, pair};
+ghost use Rattle.disk_model.specs.Disk.{Looks, HasCause, pair};
 ghost use Rattle.diagnosis.specs.Finding.{IsFinding};
 
 use crate::{Finding, examine};
@@ -26,10 +26,8 @@ pub fn diagnose<'a, D: Disk>(
     ensures ok { D.honest disk.old
         → IfOk result (IsFinding bounds.now (pair (D.seen disk.old A) (D.seen disk.old B))) }
     ensures looks { D.honest disk.old → Looks D.moment D.left D.seen disk.old disk.new }
-    ensures failures { D.failed disk.old ≤ D.failed disk.new }
-    ensures no_failure { OnOk result (D.failed disk.new ≡ D.failed disk.old) }
-    ensures device { IsErrOf result ReadFault.Device
-        → Grew (D.failed disk.old) (D.failed disk.new) }
+    ensures cause { HasCause (D.failed disk.old) (D.failed disk.new)
+        (IsErrOf result ReadFault.Device) }
 {
     let a = contents(alloc, disk, FileId::A)?;
     let b = contents(alloc, disk, FileId::B)?;
