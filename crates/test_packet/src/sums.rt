@@ -66,8 +66,21 @@ fn place_of(proto: Proto, options: usize) -> usize {
     }
 }
 
-/// A packet of this length, with this transport checksum.
-fn put_packet(packet: &mut [u8], proto: Proto, options: usize, field: u64) {
+// A packet that is made: its protocol, how many bytes of options its header has, and its transport checksum.
+#[derive(Clone, Copy, Drop)]
+struct Made {
+    proto: Proto,
+    options: usize,
+    field: u64,
+}
+
+/// A packet of this length.
+fn put_packet(packet: &mut [u8], made: Made) {
+    let Made {
+        proto,
+        options,
+        field,
+    } = made;
     let length = packet.len() as u64;
     for (at, byte) in packet.iter_mut().enumerate() {
         *byte = (at % 251) as u8 ^ 0xa5;
@@ -92,14 +105,12 @@ fn put_packet(packet: &mut [u8], proto: Proto, options: usize, field: u64) {
 }
 
 /// What leaves, by whole sums.
-fn put_through(
-    packet: &mut [u8],
-    proto: Proto,
-    options: usize,
-    field: u64,
-    src: Endpoint,
-    dst: Endpoint,
-) {
+fn put_through(packet: &mut [u8], made: Made, src: Endpoint, dst: Endpoint) {
+    let Made {
+        proto,
+        options,
+        field,
+    } = made;
     let wanted = transport_total(packet, options);
     put(packet, 8, 0x3f00 + proto.number() as u64);
     put_endpoints(packet, options, src, dst);
@@ -114,14 +125,7 @@ fn put_through(
     put(packet, place, if is_all_ones { 65535 } else { sum });
 }
 
-fn agree(
-    length: usize,
-    proto: Proto,
-    options: usize,
-    field: u64,
-    src: Endpoint,
-    dst: Endpoint,
-) -> bool {
+fn agree(length: usize, made: Made, src: Endpoint, dst: Endpoint) -> bool {
     let mut packet = [0u8; 200];
     let mut whole = [0u8; 200];
     if length > 200 {
@@ -129,22 +133,14 @@ fn agree(
     }
     let (packet, _) = packet.split_at_mut(length);
     let (whole, _) = whole.split_at_mut(length);
-    agree_in(packet, whole, proto, options, field, src, dst)
+    agree_in(packet, whole, made, src, dst)
 }
 
 // Both are as long as the packet is to be.
-fn agree_in(
-    packet: &mut [u8],
-    whole: &mut [u8],
-    proto: Proto,
-    options: usize,
-    field: u64,
-    src: Endpoint,
-    dst: Endpoint,
-) -> bool {
-    put_packet(packet, proto, options, field);
-    put_packet(whole, proto, options, field);
-    put_through(whole, proto, options, field, src, dst);
+fn agree_in(packet: &mut [u8], whole: &mut [u8], made: Made, src: Endpoint, dst: Endpoint) -> bool {
+    put_packet(packet, made);
+    put_packet(whole, made);
+    put_through(whole, made, src, dst);
     is_rewritten(packet, src, dst) && &*packet == &*whole
 }
 
@@ -184,7 +180,12 @@ const LEAST: Endpoint = Endpoint { addr: 0, port: 1 };
 fn all_agree(length: usize, field: u64) -> bool {
     for (proto, options, src, dst) in &PACKETS {
         let is_short = length < 64 && (*options > 0 || *proto == Proto::Tcp);
-        if !is_short && !agree(length, *proto, *options, field, *src, *dst) {
+        let made = Made {
+            proto: *proto,
+            options: *options,
+            field,
+        };
+        if !is_short && !agree(length, made, *src, *dst) {
             return false;
         }
     }
@@ -202,8 +203,16 @@ fn sums(rt: HostRuntime) {
 
 // Whether packets of both protocols agree, made in these bytes.
 fn both_agree_in(packet: &mut [u8], whole: &mut [u8]) -> bool {
-    agree_in(packet, whole, Proto::Udp, 0, 0x7a57, OTHER, SAME)
-        && agree_in(packet, whole, Proto::Tcp, 0, 0x7a57, OTHER, SAME)
+    let udp = Made {
+        proto: Proto::Udp,
+        options: 0,
+        field: 0x7a57,
+    };
+    let tcp = Made {
+        proto: Proto::Tcp,
+        ..udp
+    };
+    agree_in(packet, whole, udp, OTHER, SAME) && agree_in(packet, whole, tcp, OTHER, SAME)
 }
 
 // As many bytes as a length can tell, and one more.
