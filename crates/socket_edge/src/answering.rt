@@ -1,6 +1,6 @@
 //! A request that is answered in its own bytes: the gateway takes it where it lies, and the frame of its answer, which
 //! is never longer, is written over its frame.
-ghost use Rattle.std.specs.Prelude.{◌≡◌, ◌+◌, ◌<◌, ◌≤◌, ◌^◌, ◌++◌, ◌∷◌, [], ℕ, List, IfErr, IfOk, OnOk, length, take, drop, true, false};
+ghost use Rattle.std.specs.Prelude.{◌≡◌, ◌≢◌, ◌+◌, ◌<◌, ◌≤◌, ◌^◌, ◌++◌, ◌∷◌, [], ℕ, List, IfErr, IfOk, OnOk, length, take, drop, true, false};
 ghost use Rattle.machine.specs.declared.event.Answer.{Answer};
 ghost use Rattle.machine.specs.declared.event.What.TheVariants.{Load, Moment, Packet};
 ghost use Rattle.frames.specs.Answers.{frame};
