@@ -54,8 +54,8 @@ EachTakesAll last lan_gave_all wan_gave_all turns = (before after : List Turn) (
 
 module _ {L W : Type 0} (lan_coming lan_handed : L → Frames) (lan_waited : L → Option ℕ)
     (wan_coming wan_handed : W → Frames) (wan_waited : W → Option ℕ) (old : Between L W) where
-  -- There was one moment at which both devices had been waited for so often since `old`, had given these packets, had
-  -- been handed those, and no more of either.
+  -- Both devices had been waited for so often since `old`, had given these packets, had been handed those, and no more
+  -- of either.
   pub record Stood (often : ℕ) (lan wan to_lan to_wan : List (List ℕ)) : Type 0 where
     pub devices : Between L W
     pub gave_lan : Gives (lan_coming old.lan) (lan_coming devices.lan) lan

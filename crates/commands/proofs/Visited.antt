@@ -135,6 +135,7 @@ module _ {D : Type 0} (honest : D → Type 0) (moment : D → ℕ) (by_crash : D
             fares = m.fares;
             each_turn = m.each_turn;
             last_turn = m.last_turn;
+            bytes = m.bytes;
             cause = m.cause;
             leaves = tt;
           };

@@ -1,6 +1,7 @@
 -- Clients that are served one after the other.
 use Rattle.std.specs.Prelude.{◌≡◌, ◌≢◌, ◌<◌, ◌⊎◌, ◌↔◌, ⊤, ℕ, zero, suc, List, [], Result, Ok, Err, IfErr, true, false}
 use Rattle.disk_model.specs.Disk.{Files}
+use Rattle.packet.specs.Laws.{AreBytes}
 use Rattle.gateway.specs.Kept.{Kept}
 use Rattle.gateway.specs.Running.{IsWhy}
 use Rattle.gateway.specs.declared.fault.GatewayFault.{GatewayFault}
@@ -68,6 +69,7 @@ module _ {D : Type 0} (honest : D → Type 0) (moment : D → ℕ) (by_crash : D
       pub fares : Fares honest moment by_crash old new (events_in (given turns)) (taken turns)
       pub each_turn : AtEachTurn honest moment by_crash old new turns
       pub last_turn : TurnsEnd end turns
+      pub bytes : AreBytes (given turns)
       pub cause : EndHasCause end old new
       pub leaves : left last after
 

@@ -1,6 +1,7 @@
 //! Clients that are served one after the other by one gateway: the trait `Clients`, what serving them comes to, and the
 //! clients of a Unix socket.
 ghost use Rattle.std.specs.Prelude.{◌≡◌, ℕ, List, Result, false, Err, IsOk, IfErr, IfOk, OnErr, OnOk, ⊤};
+ghost use Rattle.packet.specs.Laws.{AreBytes};
 ghost use Rattle.gateway.specs.declared.fault.GatewayFault.{GatewayFault};
 ghost use Rattle.socket_edge.specs.Running.{AnswersFirst, AtEachTurn, Fares, RunEnded, TurnsEnd, events_in};
 ghost use Rattle.socket_edge.specs.Turns.{Turn, given, taken};
@@ -137,7 +138,8 @@ fn answer_client<C: Peer, D: Disk + Drop>(
         (taken turns)
         × AnswersFirst gateway.old.told turns
         × AtEachTurn D.honest D.moment D.left gateway.old gateway.new turns
-        × TurnsEnd result turns }
+        × TurnsEnd result turns
+        × AreBytes (given turns) }
     ensures cause { EndHasCause D.honest D.moment D.left D.failed result gateway.old gateway.new }
 {
     run_with(alloc, client, gateway)

@@ -8,6 +8,8 @@ use Rattle.durable.specs.Coding.{Heading}
 use Rattle.durable.specs.Entering.{Durable, empty}
 use Rattle.durable.specs.Recovery.{IsActive, IsConfigured, NoneOpen, Recovers}
 use Rattle.durable.proofs.Headed.{headed_open, recovers_once}
+use Rattle.durable.proofs.Storable.{recovers_sound}
+use Rattle.entries.proofs.Again.{restart-sound}
 use Rattle.machine.specs.Machine.{after}
 use Rattle.machine.specs.Noted.{IsResumed, lasting}
 use Rattle.snapshot.specs.Store.{IsLastFormer}
@@ -108,7 +110,13 @@ module _ {D : Type 0} (honest : D → Type 0) (moment : D → ℕ) (left : D →
         λ is. (was.0, was.1, former-before was.0 (seen entry) before.0 was.2 before.1 (goes.1.generations is)),
       )
   is-as-model earlier entry at (Opened work) is_honest are over goes =
-      (begun-again earlier entry at work is_honest (λ fs now. found-stands earlier fs are (over fs now)) goes, goes.answered)
+      let begun = begun-again earlier entry at work is_honest (λ fs now. found-stands earlier fs are (over fs now)) goes in
+      let stood = found-stands earlier (seen entry) are (over (seen entry) (reads entry is_honest)) in
+      let r = goes.resumed in (
+        begun,
+        goes.answered,
+        (restart-sound config r.0 at work.start (recovers_sound.sound config (seen entry) r.0 stood.2 r.1) (recovers_sound.stilled (seen entry) r.0 r.1) r.2).0,
+      )
 
 -- nothing is stored yet
 new-files : (config : Config) (files : Files) → NoneOpen files → Recovers files empty × IsConfigured config files

@@ -9,6 +9,7 @@ use Rattle.durable.specs.Recovery.{Alike, IsActive, IsConfigured, IsOpen, NoneOp
 use Rattle.machine.specs.Judged.{Judged, AreJudged}
 use Rattle.machine.specs.Machine.{State, after, answers, numbered}
 use Rattle.machine.specs.Noted.{IsResumed, lasting}
+use Rattle.machine.specs.Sound.{IsSoundState}
 use Rattle.machine.specs.declared.event.Answer.{Answer}
 use Rattle.machine.specs.declared.event.Event.{Event}
 use Rattle.snapshot.specs.Store.{IsLastFormer}
@@ -148,8 +149,8 @@ module _ {D : Type 0} (honest : D → Type 0) (moment : D → ℕ) (left : D →
       × LeavesNow moment left life.disk (NextFinds first earlier) × AreLives first earlier
 
   -- After the earlier lives, this is what the model says: an opening tells no damage and no other configuration, and a
-  -- gateway begins again from what the earlier lives lead to, and answers as the model. `Generations` is told only if
-  -- they may have left files of a former version that have come to the last generation.
+  -- gateway begins again from what the earlier lives lead to, with a sound state, and answers as the model.
+  -- `Generations` is told only if they may have left files of a former version that have come to the last generation.
   abbrev pub IsAsModel : Durable → List (Life D) → ℕ → Course D → Type 0
   IsAsModel first earlier opened_at (Stopped disk) = Unit {0}
   IsAsModel first earlier opened_at (Refused disk fault) =
@@ -159,6 +160,7 @@ module _ {D : Type 0} (honest : D → Type 0) (moment : D → ℕ) (left : D →
   IsAsModel first earlier opened_at (Opened work) = ((before : Durable)
       × LivesLead config first earlier before × IsResumed config before opened_at work.start)
       × AnswersAsModel config work
+      × IsSoundState config work.start
 
   -- ---- the theorem
 

@@ -15,6 +15,7 @@ returns-clause-meets g c =
       fares = r.3;
       each_turn = r.5;
       last_turn = r.6;
+      bytes = r.7;
       cause = c.answer_client-ended.ensures.cause;
       leaves = c.leave.ensures;
     }
