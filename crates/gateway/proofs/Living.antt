@@ -20,11 +20,11 @@ use Rattle.snapshot.specs.declared.fault.OpenFault.TheVariants as open_fault
 use Rattle.gateway.specs.Kept.{Kept, IsAtRest, IsSafe}
 use Rattle.gateway.specs.Syncing.{end_of}
 use Rattle.gateway.specs.Told.{Told, TookAll, TookFirst}
-use Rattle.gateway.specs.Running.{Ends, Stands, StopsWithin}
+use Rattle.gateway.specs.Running.{Ends, SafeThrough, Stands, StopsWithin}
 use Rattle.gateway.specs.declared.fault.GatewayFault.{GatewayFault}
 use Rattle.gateway.specs.declared.fault.GatewayFault.TheVariants as fault
 use Rattle.gateway.specs.Lives.{Course, Stopped, Refused, IsLife}
-use Rattle.gateway.specs.Living.{IsLived, RestsInLife, IsInLife, RunsInLife, RestsAgain, StaysInLife, StopsInLife, GoesOnInLife, TakesInLife, EndsLife, CallsAreLives}
+use Rattle.gateway.specs.Living.{IsLived, RestsInLife, IsInLife, RunsInLife, RestsAgain, StaysInLife, StopsInLife, StopsTaking, GoesOnInLife, TakesInLife, EndsLife, CallsAreLives}
 use Rattle.gateway.proofs.Runs.{compact-stopped, compacted, counted, either, ended, flush-stopped, flushed, length-numbered, stands-still, true-false}
 use Rattle.gateway.proofs.Taking.{after-append, answers-append, length-answers, numbered-append, took_none}
 
@@ -188,6 +188,28 @@ module _ {D : Type 0} (honest : D → Type 0) (moment : D → ℕ) (left : D →
   since-then now more out t =
       t.order ∙ ap (λ (l : List (ℕ × Answer)). l ++ numbered mid.told.last (answers mid.told.config mid.told.state t.judged)) r.rests.none
 
+  -- stopped within calls that take more events
+  pub stopped-through : (failed : D → ℕ) (old new : Kept D) (more taken : List Event) (judged : List Judged) (out : List (ℕ × Answer)) → Stands honest moment left failed mid old more out
+      → AreJudged old.told.config taken judged → SafeThrough honest moment left failed old new taken out
+      → IsLived honest moment left seen config entry at begun ((events ++ more) ++ taken) (given ++ out) old.disk new.disk
+  stopped-through failed old new more taken judged out s are safe =
+      let took = s.ran.took in
+      let both = safe mid more s r.rests in
+      let state = mid.told.state in
+      let last = mid.told.last in
+      let first = answers mid.told.config state took.judged in
+      let next = answers mid.told.config (after mid.told.config state took.judged) judged in
+      let behind : List (ℕ × Answer) = numbered (last + length first) next in
+      let order : out ++ (old.told.held ++ behind) ≡ numbered last (answers mid.told.config state (took.judged ++ judged)) =
+      sym (append_assoc out old.told.held behind)
+      ∙ ap (λ (l : List (ℕ × Answer)). l ++ behind) (since-then old more out took)
+      ∙ sym (numbered-append last first next)
+      ∙ ap (λ (l : List Answer). numbered last l) (sym (answers-append mid.told.config state took.judged judged)) in
+      subst (λ (es : List Event). IsLived honest moment left seen config entry at begun es (given ++ out) old.disk new.disk) (sym (append_assoc events more taken))
+      (stopped-in (more ++ taken) (took.judged ++ judged) out (old.told.held ++ behind) old.disk new.disk
+      (AreJudged-append mid.told.config more taken took.judged judged took.are_judged (subst (λ (c : Config). AreJudged c taken judged) took.config are)) order
+      (λ files since. (both.0.each files since).2) (λ files since. (both.1.each files since).2))
+
   -- it rests again
   pub rests-again : (now : Kept D) (more : List Event) (out : List (ℕ × Answer)) → TookAll mid.told now.told more out → IsAtRest honest now
       → RestsInLife honest moment left seen config entry at begun (events ++ more) (given ++ out) now
@@ -221,21 +243,36 @@ module _ {D : Type 0} (honest : D → Type 0) (moment : D → ℕ) (left : D →
     stopped-after honest moment left seen config entry at begun events given old r failed earlier new more out (ends r.rests),
   )
 
+  -- stopped within it, whatever it held when it began
+  stops-taking : (taken : List Event) (judged : List Judged) → AreJudged old.told.config taken judged
+      → ((before : List (ℕ × Answer)) → SafeThrough honest moment left failed old new taken before) → StopsTaking honest moment left seen failed old new taken
+  stops-taking taken judged are safe = λ config entry at begun events given is.
+      subst (λ (es : List Event). IsLived honest moment left seen config entry at begun (es ++ taken) given old.disk new.disk) (sym is.events_are)
+      (subst (λ (l : List (ℕ × Answer)). IsLived honest moment left seen config entry at begun ((is.earlier ++ is.more) ++ taken) l old.disk new.disk) (sym is.given_are)
+      (stopped-through honest moment left seen config entry at begun is.earlier is.answered is.rested is.rests failed old new is.more taken judged is.out is.stands are (safe is.out)))
+
+  -- with a fault, having taken the first of the events
+  abbrev ThroughFront : List Event → List (ℕ × Answer) → GatewayFault → Type 0
+  ThroughFront events out why = (stops : StopsWithin honest moment left failed old new events out why)
+      × ((before : List (ℕ × Answer)) → SafeThrough honest moment left failed old new stops.front before)
+
   pub run-ok : {T E : Type 0} (result : Result T E) (events : List Event) (items : T → List (ℕ × Answer)) (Q : E → Type 0) → IfOk result (λ a. TookAll old.told new.told events (items a))
       → (honest new.disk → honest old.disk) → (new.fallen ≡ false → honest old.disk → honest new.disk)
       → (IsAtRest honest old → LeavesOnly moment left old.disk new.disk (IsSafe old.told.config old.told.state events 0))
       → (IsAtRest honest old → MatchResult result (λ a. LeavesNow moment left new.disk (IsSafe old.told.config old.told.state events (length (items a)))) Q)
       → (old.fallen ≡ false → honest old.disk → LeavesOnly moment left old.disk new.disk (IsConfigured old.told.config))
       → OnOk result (new.told.held ≡ []) → OnOk result (new.fallen ≡ false)
-      → IfOk result (λ a. RunsInLife honest moment left seen old new events (items a) × RestsAgain honest moment left seen old new events (items a))
-  run-ok (Err e) events items Q took was stays any exit conf none stands = tt
-  run-ok (Ok a) events items Q took was stays any exit conf none stands = (
+      → ((before : List (ℕ × Answer)) → SafeThrough honest moment left failed old new events before)
+      → IfOk result (λ a. RunsInLife honest moment left seen old new events (items a) × RestsAgain honest moment left seen old new events (items a) × StopsTaking honest moment left seen failed old new events)
+  run-ok (Err e) events items Q took was stays any exit conf none stands safe = tt
+  run-ok (Ok a) events items Q took was stays any exit conf none stands safe = (
     runs-in-life events (items a) (λ rests. record {
       ran = record { took = took; stood = rests.stands; was_honest = was; stays_honest = stays; any_moment = any; configured = conf rests.stands };
       at_exit = exit;
     }),
     λ config entry at begun es given r. rests-again honest moment left seen config entry at begun es given old r new events (items a) took
         (record { stands = stands; is_honest = stays stands r.rests.is_honest; none = none }),
+    stops-taking events took.judged took.are_judged safe,
   )
 
   -- it had fallen, so that it was in no life
@@ -250,27 +287,30 @@ module _ {D : Type 0} (honest : D → Type 0) (moment : D → ℕ) (left : D →
   -- what was taken of the events, and what becomes of the life
   abbrev TakesFront : List Event → List (ℕ × Answer) → GatewayFault → Type 0
   TakesFront events out why = (front : List Event) × (back : List Event) × (events ≡ front ++ back) × RunsInLife honest moment left seen old new front out
-      × (why ≢ fault.Device → StaysInLife honest moment left seen failed old new front out)
+      × (why ≢ fault.Device → StaysInLife honest moment left seen failed old new front out) × StopsTaking honest moment left seen failed old new front
 
   takes-front : (events : List Event) (out : List (ℕ × Answer)) (why : GatewayFault) (fallen : Bool) → old.fallen ≡ fallen
-      → (old.fallen ≡ false → StopsWithin honest moment left failed old new events out why) → TookFirst old.told new.told events out → TakesFront events out why
-  takes-front events out why false up within first =
-      let w = within up in
-      (w.front, w.back, w.split, runs-in-life w.front out (λ rests. w.stops.ends), λ other. stays-in-life w.front out (w.stops.stays other))
-  takes-front events out why true down within first = (
+      → (old.fallen ≡ false → ThroughFront events out why) → TookFirst old.told new.told events out → TakesFront events out why
+  takes-front events out why false up through first =
+      let t = through up in
+      let w = t.0 in
+      let took = w.stops.ends.ran.took in
+      (w.front, w.back, w.split, runs-in-life w.front out (λ rests. w.stops.ends), (λ other. stays-in-life w.front out (w.stops.stays other)), stops-taking w.front took.judged took.are_judged t.1)
+  takes-front events out why true down through first = (
     first.front,
     first.back,
     first.split,
     (λ config entry at begun es given r. absurd (fallen-rests down r.rests)),
     (λ other config entry at begun es given r. absurd (fallen-rests down r.rests)),
+    (λ config entry at begun es given is. absurd (true-false old.fallen down is.stands.stands)),
   )
 
   pub run-err : {T E : Type 0} (result : Result T E) (events : List Event) (items : E → List (ℕ × Answer)) (why : E → GatewayFault)
-      → (old.fallen ≡ false → IfErr result (λ e. StopsWithin honest moment left failed old new events (items e) (why e)))
+      → (old.fallen ≡ false → IfErr result (λ e. ThroughFront events (items e) (why e)))
       → IfErr result (λ e. TookFirst old.told new.told events (items e))
       → IfErr result (λ e. TakesFront events (items e) (why e))
-  run-err (Ok a) events items why within first = tt
-  run-err (Err e) events items why within first = takes-front events (items e) (why e) old.fallen refl within first
+  run-err (Ok a) events items why through first = tt
+  run-err (Err e) events items why through first = takes-front events (items e) (why e) old.fallen refl through first
 
 -- ---- call by call
 
@@ -407,6 +447,8 @@ calls-are honest moment left seen failed reads earlier = record {
       stopped-in honest moment left seen config entry at begun events given rested rests more s.ran.took.judged out old.told.held old.disk new.disk s.ran.took.are_judged
       (since-then honest moment left seen config entry at begun events given rested rests old more out s.ran.took)
       (λ files since. (both.0.each files since).2) (λ files since. (both.1.each files since).2);
+  through = λ config entry at begun rested old new events more taken judged given out rests s are safe.
+      stopped-through honest moment left seen config entry at begun events given rested rests failed old new more taken judged out s are safe;
   ends = λ config entry at begun rested now events more given out rests e.
       stopped-after honest moment left seen config entry at begun events given rested rests failed earlier now more out e;
 }

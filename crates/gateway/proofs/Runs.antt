@@ -2,7 +2,7 @@
 use Rattle.std.proofs.Common.{◌≡◌, ◌≢◌, ◌⊎◌, ◌↔◌, Result, Ok, Err, Option, Some, None, IfSome, OnSome, inl, inr, ⊎_elim, ℕ, zero, suc, ◌+◌, ◌-◌, ◌^◌, ◌<◌, ◌≤◌, List, [], ◌∷◌, ◌++◌, Bool, true, false, length, take, refl, sym, ◌∙◌, ap, subst, arith, append_assoc, length-append}
 use Rattle.std.specs.Prelude.{IsErrOf}
 use Rattle.std.proofs.lemmas.Bool.{false≢true}
-use Rattle.std.proofs.lemmas.List.{append-nil, take_all, take-append-le}
+use Rattle.std.proofs.lemmas.List.{append-nil, nil_from_length, take_all, take-append-le}
 use Rattle.packet.specs.Config.{Config, is_config}
 use Rattle.disk_model.specs.Disk.{Files, LeavesNow, LeavesOnly, Grew}
 use Rattle.disk_model.proofs.Moments.{idle, narrows, only_now, only_then}
@@ -529,6 +529,15 @@ module _ {D : Type 0} (honest : D → Type 0) (moment : D → ℕ) (left : D →
       subst (λ (es : List Event). BreaksOff honest moment left failed old new es before out why) (sym split)
       (breaks-then old mid new one (call ++ rest) before between out why first (breaks-before mid new call rest between out why next))
 
+  -- by a call that takes none of its events
+  pub breaks-none : (mid new : Kept D) (call : List Event) (between out : List (ℕ × Answer)) (why : GatewayFault) → BreaksOff honest moment left failed mid new call between out why
+      → new.told.last ≡ mid.told.last → (start : Kept D) (events : List Event) → Stands honest moment left failed start mid events between
+      → Stops honest moment left failed start new events out why
+  breaks-none mid new call between out why off same start events s =
+      let is = off start events s in
+      let none : is.0 ≡ [] = nil_from_length is.0 (omega (arith, same, s.ran.took.last, is.3.ends.ran.took.last, length-append events is.0)) in
+      subst (λ (es : List Event). Stops honest moment left failed start new es out why) (ap (λ (l : List Event). events ++ l) none ∙ append-nil events) is.3
+
   -- within a call, with events that it may not take
   pub within-through : (old new : Kept D) (more : List Event) (before : List (ℕ × Answer)) → SafeWithin honest moment left failed old new before
       → SafeThrough honest moment left failed old new more before
@@ -557,6 +566,14 @@ module _ {D : Type 0} (honest : D → Type 0) (moment : D → ℕ) (left : D →
               (record { count = is.count; answered = omega (arith, le, is.answered); within = is.within; judged = is.judged; are_judged = is.are_judged; recovers = is.recovers })),
           only_then moment left old.disk mid.disk new.disk (IsConfigured start.told.config) (IsConfigured start.told.config) (IsConfigured start.told.config) (earlier mid.disk) was.1 then.1 (λ files is. is) (λ files is. is),
         )
+
+    -- calls that take events, and then one that takes none
+    pub through-last : (old mid new : Kept D) (one : List Event) (before between : List (ℕ × Answer)) → SafeThrough honest moment left failed old mid one before
+        → CarriesOn honest moment left failed old mid one before between → length before ≤ length between → SafeWithin honest moment left failed mid new between
+        → SafeThrough honest moment left failed old new one before
+    through-last old mid new one before between first on le next =
+        subst (λ (es : List Event). SafeThrough honest moment left failed old new es before) (append-nil one)
+        (through-then old mid new one [] before between first on le (within-through mid new [] between next))
 
     -- one call within which a run is safe, and then another
     pub within-then : (old mid new : Kept D) (before between : List (ℕ × Answer)) → SafeWithin honest moment left failed old mid before → CarriesOn honest moment left failed old mid [] before between

@@ -4,14 +4,14 @@ use Rattle.packet.specs.Config.{Config}
 use Rattle.disk_model.specs.Disk.{Files}
 use Rattle.durable.specs.Entering.{Durable}
 use Rattle.durable.specs.Recovery.{Recovers}
-use Rattle.machine.specs.Judged.{Judged}
+use Rattle.machine.specs.Judged.{Judged, AreJudged}
 use Rattle.machine.specs.Machine.{State}
 use Rattle.machine.specs.Noted.{IsResumed}
 use Rattle.machine.specs.declared.event.Answer.{Answer}
 use Rattle.machine.specs.declared.event.Event.{Event}
 use Rattle.gateway.specs.Kept.{Kept, IsAtRest}
 use Rattle.gateway.specs.Lives.{Life, Opened, IsLife}
-use Rattle.gateway.specs.Running.{Ends, SafeWithin, Stands}
+use Rattle.gateway.specs.Running.{Ends, SafeThrough, SafeWithin, Stands}
 use Rattle.gateway.specs.Told.{TookAll}
 
 module _ {D : Type 0} (honest : D → Type 0) (moment : D → ℕ) (left : D → ℕ → Files → Type 0)
@@ -101,6 +101,15 @@ module _ {D : Type 0} (honest : D → Type 0) (moment : D → ℕ) (left : D →
         → IsLived honest moment left seen config entry opened_at begun events given old.disk
         new.disk
 
+    -- Calls take these events. Whatever life the gateway is in, and whatever it holds, a stop within them is its end,
+    -- with the answers that were given out before them.
+    abbrev pub StopsTaking : List Event → Type 0
+    StopsTaking taken = (config : Config) (entry : D) (opened_at : ℕ) (begun : Kept D)
+        (events : List Event) (given : List (ℕ × Answer))
+        → IsInLife config entry opened_at begun events given old
+        → IsLived honest moment left seen config entry opened_at begun (events ++ taken) given
+        old.disk new.disk
+
     -- After the call it is in the same life, with these answers given out too.
     abbrev pub GoesOnInLife : List (ℕ × Answer) → Type 0
     GoesOnInLife out = (config : Config) (entry : D) (opened_at : ℕ) (begun : Kept D)
@@ -133,7 +142,7 @@ module _ {D : Type 0} (honest : D → Type 0) (moment : D → ℕ) (left : D →
 
   -- A gateway in its life may be stopped between two calls; and if it holds nothing, it rests. What the calls of
   -- `running` promise of a run that began where it rested leads on in its life (`Stands`), or to its end (`Ends`); so
-  -- does a stop within them (`SafeWithin`), with all answers given out that were before.
+  -- does a stop within them (`SafeWithin`, `SafeThrough`), with all answers given out that were before.
   pub record CallsAreLives : Type 0 where
     pub between : (now : Kept D) → EndsLife now now
     pub at_rest : (config : Config) (entry : D) (opened_at : ℕ) (begun now : Kept D)
@@ -151,6 +160,16 @@ module _ {D : Type 0} (honest : D → Type 0) (moment : D → ℕ) (left : D →
         → Stands honest moment left failed rested old more out
         → SafeWithin honest moment left failed old new out
         → IsLived honest moment left seen config entry opened_at begun (events ++ more)
+        (given ++ out) old.disk new.disk
+    -- Within calls that take events, these are taken in the life that the stop ends, each as it is judged. Answers may
+    -- be held when the calls begin.
+    pub through : (config : Config) (entry : D) (opened_at : ℕ) (begun rested old new : Kept D)
+        (events more taken : List Event) (judged : List Judged) (given out : List (ℕ × Answer))
+        → RestsInLife honest moment left seen config entry opened_at begun events given rested
+        → Stands honest moment left failed rested old more out
+        → AreJudged old.told.config taken judged
+        → SafeThrough honest moment left failed old new taken out
+        → IsLived honest moment left seen config entry opened_at begun ((events ++ more) ++ taken)
         (given ++ out) old.disk new.disk
     pub ends : (config : Config) (entry : D) (opened_at : ℕ) (begun rested now : Kept D)
         (events more : List Event) (given out : List (ℕ × Answer))

@@ -675,6 +675,13 @@ impl<D: Disk + Drop> Gateway<D> {
             (before ++ e.0.items) e.1) }
         ensures through { (before : List (ℕ × Answer))
             → SafeThrough D.honest D.moment D.left D.failed self.old self.new events.items before }
+
+        // After a fault what is left holds no event that wasn't taken.
+        ensures through_front { self.old.fallen ≡ false → IfErr result (λ e.
+            (stops : StopsWithin D.honest D.moment D.left D.failed self.old self.new events.items
+            e.0.items e.1)
+            × ((before : List (ℕ × Answer)) → SafeThrough D.honest D.moment D.left D.failed
+            self.old self.new stops.front before)) }
         ensures configured { self.old.fallen ≡ false → D.honest self.old.disk
             → LeavesOnly D.moment D.left self.old.disk self.new.disk
             (IsConfigured self.old.told.config) }

@@ -15,7 +15,7 @@ ghost use Rattle.machine.specs.declared.event.Event.{Event};
 ghost use Rattle.machine.specs.declared.event.What.TheVariants.{Packet};
 ghost use Rattle.gateway.specs.Given.{answer_given, given_by, handed};
 ghost use Rattle.gateway.specs.Lives.{GoesOnAfterAStop, IsLife, LivesAreTheModels, Refused, Stopped};
-ghost use Rattle.gateway.specs.Living.{CallsAreLives, EndsLife, GoesOnInLife, RestsAgain, RestsInLife, RunsInLife, StaysInLife, StopsInLife, TakesInLife};
+ghost use Rattle.gateway.specs.Living.{CallsAreLives, EndsLife, GoesOnInLife, RestsAgain, RestsInLife, RunsInLife, StaysInLife, StopsInLife, StopsTaking, TakesInLife};
 ghost use Rattle.gateway.specs.Restarts.{RestartsKeepTheState};
 ghost use Rattle.gateway.specs.Standing.{CallsStandForTheModel};
 ghost use Rattle.gateway.specs.Taking.{IsNoPacket};
@@ -96,6 +96,8 @@ pub fn open_in_lives<D: Disk + Drop>(
 
 /// Takes events (`Gateway::run`), for a gateway that rests in its life. Stopped within it, or after it, that is a life.
 /// If it ends well, the gateway rests again; with any fault but `Device` it goes on in its life, and may hold answers.
+/// Whatever the gateway holds when it begins, a stop within it is the end of its life, with all answers that were given
+/// out before.
 ///
 /// # Errors
 ///
@@ -108,7 +110,9 @@ pub fn run_in_lives<D: Disk + Drop>(
         RunsInLife D.honest D.moment D.left D.seen gateway.old gateway.new events.items
         answers.items
         × RestsAgain D.honest D.moment D.left D.seen gateway.old gateway.new events.items
-        answers.items) }
+        answers.items
+        × StopsTaking D.honest D.moment D.left D.seen D.failed gateway.old gateway.new
+        events.items) }
 
     // With a fault, this is said of those that were taken. Unless a call of the disk failed, the gateway stays in its
     // life.
@@ -116,7 +120,8 @@ pub fn run_in_lives<D: Disk + Drop>(
         × (back : List Event) × (events.items ≡ front ++ back)
         × RunsInLife D.honest D.moment D.left D.seen gateway.old gateway.new front e.0.items
         × (e.1 ≢ GatewayFault.Device → StaysInLife D.honest D.moment D.left D.seen D.failed
-        gateway.old gateway.new front e.0.items)) }
+        gateway.old gateway.new front e.0.items)
+        × StopsTaking D.honest D.moment D.left D.seen D.failed gateway.old gateway.new front) }
 {
     gateway.run(events)
 }
@@ -251,7 +256,8 @@ pub fn compact_in_lives<D: Disk + Drop>(gateway: &mut Gateway<D>) -> Result<(), 
 }
 
 /// Between two calls a stop is the end of a life. What the calls of `running` promise leads on in the life of a gateway
-/// (`CarriesOn`), or to its end (`BreaksOff`).
+/// (`CarriesOn`), or to its end (`BreaksOff`). So does a stop within them (`SafeWithin`), and within a run of events
+/// that begins while answers are held (`SafeThrough`).
 pub fn calls_are_lives<D: Disk>(_: &D)
     ensures { CallsAreLives D.honest D.moment D.left D.seen D.failed }
 {}

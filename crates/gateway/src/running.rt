@@ -56,6 +56,11 @@ pub(crate) fn take_all<D: Disk + Drop>(
     ensures through { (before : List (ℕ × Answer))
         → SafeThrough D.honest D.moment D.left D.failed gateway.old gateway.new events.items
         before }
+    ensures through_front { IfErr result (λ e.
+        (stops : StopsWithin D.honest D.moment D.left D.failed gateway.old gateway.new events.items
+        answers.new.items e)
+        × ((before : List (ℕ × Answer)) → SafeThrough D.honest D.moment D.left D.failed
+        gateway.old gateway.new stops.front before)) }
     ensures stands { OnOk result (gateway.new.fallen ≡ false) }
     ensures no_failure { OnOk result (D.failed gateway.new.disk ≡ D.failed gateway.old.disk) }
 {

@@ -4,7 +4,7 @@ use Rattle.std.proofs.lemmas.Result.{err_from_is_err_and, IfErr-weaker, on_ok_we
 use Rattle.machine.specs.declared.event.Answer.{Answer}
 use Rattle.machine.specs.declared.event.Event.{Event}
 use Rattle.gateway.specs.Running.{CarriesOn, SafeThrough, Stands}
-use Rattle.gateway.proofs.Runs.{breaks-last, breaks-within, carries-none, carries-then, ended, still-within, through-then, within-through}
+use Rattle.gateway.proofs.Runs.{breaks-last, breaks-none, breaks-within, carries-none, carries-then, ended, still-within, through-last, through-then, within-through}
 use Rattle.gateway.proofs.running.take_all.Goals as goal
 
 pub loop-event-init : goal.loop-event-init
@@ -69,6 +69,24 @@ returns-in_err-take-clause-through g c =
     (i.through before) (i.carries before) (omega (arith, length-append before out))
     (within-through g.D.Disk.honest g.D.Disk.moment g.D.Disk.left g.D.Disk.failed c.loop-event.gateway c.take.new.gateway rest (before ++ out) (c.take.ensures.any_moment before)))
 
+pub returns-in_err-take-clause-through_front : goal.returns-in_err-take-clause-through_front
+returns-in_err-take-clause-through_front g c =
+    let p = err_from_is_err_and c.from_residual.result c.from_residual.ensures.1 in
+    let i = c.loop-event.invariant in
+    let now = c.args.gateway.now in
+    let out = c.loop-event.answers.items in
+    rw (p.1, p.2) (
+      record {
+        front = c.loop-event.yielded;
+        back = c.in-Some.event ∷ c.next.new.self.rest.items;
+        split = i.split ∙ ap (λ (es : List Event). c.loop-event.yielded ++ es) c.in-Some.ensures.steps.0;
+        stops = breaks-none g.D.Disk.honest g.D.Disk.moment g.D.Disk.left g.D.Disk.failed c.loop-event.gateway c.take.new.gateway (c.in-Some.event ∷ []) out c.take.new.answers.items _
+            (c.in_err-take.ensures.err []) c.in_err-take.ensures.not_taken.1 now c.loop-event.yielded (i.carries [] now [] c.requires.begun);
+      },
+      λ before. through-last g.D.Disk.honest g.D.Disk.moment g.D.Disk.left g.D.Disk.failed g.met.D.Disk.earlier now c.loop-event.gateway c.take.new.gateway c.loop-event.yielded before (before ++ out)
+          (i.through before) (i.carries before) (omega (arith, length-append before out)) (c.take.ensures.any_moment before),
+    )
+
 -- all are taken
 
 pub returns-clause-carries : goal.returns-clause-carries
@@ -117,3 +135,21 @@ returns-clause-through g c =
     (through-then g.D.Disk.honest g.D.Disk.moment g.D.Disk.left g.D.Disk.failed g.met.D.Disk.earlier c.args.gateway.now c.loop-event.gateway c.hand_out.new.gateway c.loop-event.yielded rest before (before ++ out)
     (i.through before) (i.carries before) (omega (arith, length-append before out))
     (within-through g.D.Disk.honest g.D.Disk.moment g.D.Disk.left g.D.Disk.failed c.loop-event.gateway c.hand_out.new.gateway rest (before ++ out) (c.hand_out.ensures.any_moment before)))
+
+pub returns-clause-through_front : goal.returns-clause-through_front
+returns-clause-through_front g c =
+    let i = c.loop-event.invariant in
+    let now = c.args.gateway.now in
+    let out = c.loop-event.answers.items in
+    IfErr-weaker c.hand_out.result _ _ (λ why breaks. (
+      record {
+        front = c.loop-event.yielded;
+        back = c.loop-event.event-iterator.rest.items;
+        split = i.split;
+        stops = breaks-none g.D.Disk.honest g.D.Disk.moment g.D.Disk.left g.D.Disk.failed c.loop-event.gateway c.hand_out.new.gateway [] out c.hand_out.new.answers.items why
+            (breaks []) c.hand_out.ensures.last now c.loop-event.yielded (i.carries [] now [] c.requires.begun);
+      },
+      λ before. through-last g.D.Disk.honest g.D.Disk.moment g.D.Disk.left g.D.Disk.failed g.met.D.Disk.earlier now c.loop-event.gateway c.hand_out.new.gateway c.loop-event.yielded before (before ++ out)
+          (i.through before) (i.carries before) (omega (arith, length-append before out)) (c.hand_out.ensures.any_moment before),
+    ))
+    c.hand_out.ensures.err

@@ -1,7 +1,7 @@
 use Rattle.std.proofs.Common.{[], ◌++◌, List, ℕ, ap, refl, sym, ◌∙◌, subst}
 use Rattle.std.proofs.lemmas.List.{append-nil}
 use Rattle.machine.specs.declared.event.Answer.{Answer}
-use Rattle.gateway.specs.Running.{BreaksOff}
+use Rattle.gateway.specs.Running.{BreaksOff, Stops}
 use Rattle.gateway.specs.declared.fault.GatewayFault.TheVariants as fault
 use Rattle.gateway.proofs.Runs.{begun, breaks-here, ended, memory-why, refused, still-within, true-false, within-took, within-any_moment, within-at_exit, within-through}
 use Rattle.gateway.proofs.calls.Gateway.run.Goals as goal
@@ -107,6 +107,29 @@ pub returns-in-Err-clause-within : goal.returns-in-Err-clause-within
 returns-in-Err-clause-within g c = λ stood. c.in-Err.ensures.err
 
 -- whatever is held
+
+pub returns-in_default-clause-through_front : goal.returns-in_default-clause-through_front
+returns-in_default-clause-through_front g c =
+    let self = c.args.self.now in
+    let f = c.has_fallen.ensures in
+    let up = c.if-has_fallen.false in
+    let begins = begun g.D.Disk.honest g.D.Disk.moment g.D.Disk.left g.D.Disk.seen g.D.Disk.failed g.met.D.Disk.reads g.met.D.Disk.earlier self (sym f.value ∙ up) (f.stands up) (f.present up) (f.configured up) in
+    λ stood. (
+      record {
+        front = [];
+        back = c.args.events.items;
+        split = refl;
+        stops = subst (λ (l : List (ℕ × Answer)). Stops g.D.Disk.honest g.D.Disk.moment g.D.Disk.left g.D.Disk.failed self self [] l fault.NoMemory) (sym c.new-in_default.ensures.items) (record {
+          ends = ended g.D.Disk.honest g.D.Disk.moment g.D.Disk.left g.D.Disk.seen g.D.Disk.failed g.met.D.Disk.reads g.met.D.Disk.earlier self self [] [] begins;
+          is_why = memory-why g.D.Disk.honest g.D.Disk.moment g.D.Disk.left g.D.Disk.failed self self begins.stands begins.no_failure;
+          stays = λ other. begins;
+        });
+      },
+      λ before. within-through g.D.Disk.honest g.D.Disk.moment g.D.Disk.left g.D.Disk.failed self self [] before (λ start events s ready. still-within g.D.Disk.honest g.D.Disk.moment g.D.Disk.left g.D.Disk.seen g.D.Disk.failed g.met.D.Disk.reads g.met.D.Disk.earlier start self events before s self refl ready),
+    )
+
+pub returns-in-Err-clause-through_front : goal.returns-in-Err-clause-through_front
+returns-in-Err-clause-through_front g c = λ stood. c.in-Err.ensures.through_front
 
 pub returns-then-has_fallen-clause-through : goal.returns-then-has_fallen-clause-through
 returns-then-has_fallen-clause-through g c =
