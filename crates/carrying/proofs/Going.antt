@@ -1,5 +1,6 @@
 -- A run of turns, and how it ends.
 use Rattle.std.proofs.Common.{◌≡◌, ◌⊎◌, ℕ, ◌+◌, ◌-◌, ◌^◌, ◌≤◌, false, List, [], ◌∷◌, ◌++◌, length, map, Ok, Err, refl, sym, ap, subst, ◌∙◌, arith, length-append}
+use Rattle.std.specs.List.{AllByRecursion}
 use Rattle.std.proofs.lemmas.List.{append-nil}
 use Rattle.disk_model.specs.Disk.{Files}
 use Rattle.packet.specs.declared.endpoint.Iface.TheVariants.{Lan, Wan}
@@ -14,7 +15,8 @@ use Rattle.machine.specs.declared.event.Answer.{Answer}
 use Rattle.socket_edge.specs.declared.fault.EdgeFault.{EdgeFault}
 use Rattle.socket_edge.specs.Running.{Fares}
 use Rattle.to_devices.proofs.Letting.{Hands-nil}
-use Rattle.from_devices.proofs.Gathering.{Gives-nil, Gives-then}
+use Rattle.from_devices.specs.Requests.{IsPacket}
+use Rattle.from_devices.proofs.Gathering.{Gives-nil, Gives-then, all-append}
 use Rattle.carrying.specs.Asking.{Asks, AsksFor, IsOver}
 use Rattle.carrying.specs.Carried.{Carries, Fails, handed_to}
 use Rattle.carrying.specs.Counted.{CountsTurn, CountsTurns}
@@ -50,6 +52,8 @@ module _ {D : Type 0} (honest : D → Type 0) (moment : D → ℕ) (left : D →
       pub asked : AsksFor asks asks' (map asked_of turns)
       pub gave_lan : Gives lan lan' (from_lan turns)
       pub gave_wan : Gives wan wan' (from_wan turns)
+      pub lan_packets : AllByRecursion IsPacket (from_lan turns)
+      pub wan_packets : AllByRecursion IsPacket (from_wan turns)
       pub takes : EachTakesAll last P Q turns
       pub moment_is : at ≡ last_of last turns
       pub counted : CountsTurns last turns start.told now.told counts counts'
@@ -75,6 +79,8 @@ module _ {D : Type 0} (honest : D → Type 0) (moment : D → ℕ) (left : D →
         asked = AsksFor-nil asks;
         gave_lan = Gives-nil lan;
         gave_wan = Gives-nil wan;
+        lan_packets = tt;
+        wan_packets = tt;
         takes = each-first last P Q;
         moment_is = refl;
         counted = (refl, refl);
@@ -109,6 +115,8 @@ module _ {D : Type 0} (honest : D → Type 0) (moment : D → ℕ) (left : D →
           asked = asked-then a a' a'' i.turns turn i.asked asked;
           gave_lan = gave_lan;
           gave_wan = gave_wan;
+          lan_packets = rw (lan-then i.turns turn) (all-append (from_lan i.turns) turn.lan i.lan_packets gave.lan_packets);
+          wan_packets = rw (wan-then i.turns turn) (all-append (from_wan i.turns) turn.wan i.wan_packets gave.wan_packets);
           takes = takes-next last at done i.turns turn l l' w w' A B i.moment_is i.count i.takes i.gave_lan i.gave_wan more-lan more-wan takes;
           moment_is = is ∙ ap (λ (m : ℕ). later m turn.moment) i.moment_is ∙ sym (last-then last i.turns turn);
           counted = counts-then last i.turns turn start.told now.told new.told c c' c'' i.counted (subst (λ (m : ℕ). CountsTurn m turn now.told new.told c' c'') i.moment_is counts);
@@ -137,6 +145,8 @@ module _ {D : Type 0} (honest : D → Type 0) (moment : D → ℕ) (left : D →
             ends = refl;
             gave_lan = rw (lan-then i.turns turn) (Gives-then l l' l'' _ _ i.gave_lan gave.from_lan);
             gave_wan = rw (wan-then i.turns turn) (Gives-then w w' w'' _ _ i.gave_wan gave.from_wan);
+            lan_packets = rw (lan-then i.turns turn) (all-append (from_lan i.turns) turn.lan i.lan_packets gave.lan_packets);
+            wan_packets = rw (wan-then i.turns turn) (all-append (from_wan i.turns) turn.wan i.wan_packets gave.wan_packets);
             settled = now;
             stays = λ none. absurd (omega (arith, ap length none));
             answered = i.trail.carries.answered;
@@ -169,6 +179,8 @@ module _ {D : Type 0} (honest : D → Type 0) (moment : D → ℕ) (left : D →
           ends = (refl, subst (λ (n : ℕ). IsOver a' ⊎ (n ≡ 2 ^ 64 - 1)) (sym i.count) over);
           gave_lan = rw (append-nil i.turns) i.gave_lan;
           gave_wan = rw (append-nil i.turns) i.gave_wan;
+          lan_packets = rw (append-nil i.turns) i.lan_packets;
+          wan_packets = rw (append-nil i.turns) i.wan_packets;
           settled = now;
           stays = λ none. refl;
           answered = i.trail.carries.answered;

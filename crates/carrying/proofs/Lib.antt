@@ -11,3 +11,4 @@ mod Short
 mod Going
 mod Lives
 mod Noted
+mod Bytes

@@ -1,10 +1,13 @@
 -- Turns one after the other.
-use Rattle.std.specs.Prelude.{◌≡◌, ◌⊎◌, ℕ, ◌+◌, ◌-◌, ◌^◌, List, [], ◌∷◌, ◌++◌, length, map, take, Option, Result, Ok, Err}
-use Rattle.std.specs.List.{flat_map}
+use Rattle.std.specs.Prelude.{◌≡◌, ◌⊎◌, ℕ, ◌+◌, ◌-◌, ◌^◌, ◌≤◌, List, [], ◌∷◌, ◌++◌, length, map, take, Option, Result, Ok, Err}
+use Rattle.std.specs.List.{flat_map, AllByRecursion}
 use Rattle.disk_model.specs.Disk.{Files, LeavesOnly}
+use Rattle.packet.specs.Laws.{AreBytes}
+use Rattle.packet.specs.declared.endpoint.Iface.{Iface}
 use Rattle.packet.specs.declared.endpoint.Iface.TheVariants.{Lan, Wan}
 use Rattle.devices.specs.Handing.{Frames, Gives, Hands, Waits}
 use Rattle.durable.specs.Recovery.{IsConfigured}
+use Rattle.from_devices.specs.Requests.{IsPacket}
 use Rattle.frames.specs.Answers.{frames}
 use Rattle.gateway.specs.Kept.{Kept, IsAtRest, IsSafe}
 use Rattle.gateway.specs.Told.{TookAll}
@@ -12,6 +15,7 @@ use Rattle.machine.specs.Judged.{Judged, AreJudged}
 use Rattle.machine.specs.Machine.{later}
 use Rattle.machine.specs.declared.event.Answer.{Answer}
 use Rattle.machine.specs.declared.event.Event.{Event}
+use Rattle.machine.specs.declared.event.What.TheVariants.{Packet}
 use Rattle.socket_edge.specs.declared.fault.EdgeFault.{EdgeFault}
 use Rattle.socket_edge.specs.Progress.{Reached, replies}
 use Rattle.socket_edge.specs.Running.{Fares}
@@ -39,6 +43,15 @@ from_lan turns = flat_map (λ (turn : Turn). turn.lan) turns
 
 abbrev pub from_wan : List Turn → List (List ℕ)
 from_wan turns = flat_map (λ (turn : Turn). turn.wan) turns
+
+-- If what the devices gave in turns are packets with their headers, the packet of each event of these turns is bytes,
+-- at most 65,535.
+abbrev pub PacketsAreBytes : Type 0
+PacketsAreBytes = (last : ℕ) (turns : List Turn) (before : List Event) (event : Event)
+    (after : List Event) (iface : Iface) (packet : List ℕ)
+    → AllByRecursion IsPacket (from_lan turns) → AllByRecursion IsPacket (from_wan turns)
+    → all_events last turns ≡ before ++ event ∷ after → event.what ≡ Packet iface packet
+    → AreBytes packet × (length packet ≤ 65535)
 
 -- what they were asked for by
 abbrev pub asked_of : Turn → Asked
@@ -149,6 +162,9 @@ module _ {D : Type 0} (honest : D → Type 0) (moment : D → ℕ) (left : D →
     pub ends : EndsBy ended turns failed asks'
     pub gave_lan : Gives lan lan' (from_lan (turns ++ failed))
     pub gave_wan : Gives wan wan' (from_wan (turns ++ failed))
+    -- each is a header and a packet, of bytes, also where nothing is known of what a device gives
+    pub lan_packets : AllByRecursion IsPacket (from_lan (turns ++ failed))
+    pub wan_packets : AllByRecursion IsPacket (from_wan (turns ++ failed))
     -- the gateway behind the turns that didn't fail
     pub settled : Kept D
     pub stays : failed ≡ [] → settled ≡ new

@@ -271,9 +271,10 @@ impl Carrier {
     ) -> Result<(), EdgeFault>
         requires stands { gateway.old.fallen ≡ false }
         requires none { gateway.old.told.held ≡ [] }
-        // By which turns it went, all that came from the devices in them, and all that went to these; what a stop
-        // leaves, also one in the midst; why the last turn failed, if one did; that each took what the devices had; that
-        // the answers of each that didn't fail were counted; and that what left in it was handed on in it.
+        // By which turns it went, all that came from the devices in them, which is packets of bytes, and all that went to
+        // these; what a stop leaves, also one in the midst; why the last turn failed, if one did; that each took what the
+        // devices had; that the answers of each that didn't fail were counted; and that what left in it was handed on in
+        // it.
         ensures ran { (run : Ran D.honest D.moment D.left gateway.old gateway.new result self.old.told
             (P.asks pace.old) (P.asks pace.new)
             (L.coming devices.old.lan) (L.coming devices.new.lan)

@@ -1,6 +1,7 @@
 //! What follows from the definitions of `specs/Runs`: a run of turns is part of a life, as `gateway::laws` speaks of
-//! lives.
+//! lives; and its packets are bytes, as laws of packets ask.
 ghost use Rattle.carrying.specs.Lives.{CarryRunsAreLives, CarryStopsAreLives};
+ghost use Rattle.carrying.specs.Runs.{PacketsAreBytes};
 
 use disk_model::Disk;
 use machine::laws::events_are_judged_once;
@@ -16,3 +17,10 @@ pub fn stops_are_lives<D: Disk>(_: &D)
 {
     events_are_judged_once();
 }
+
+/// The packet of each event of turns is bytes, at most 65,535, if what the devices gave is. In a run it is
+/// (`lan_packets` and `wan_packets` of `ran` of `Carrier::carry`), so the laws of a packet that ask this (`AreBytes`,
+/// as `packet::laws::packets_fit` does) hold of each packet of a run.
+pub fn packets_are_bytes()
+    ensures { PacketsAreBytes }
+{}

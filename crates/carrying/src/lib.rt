@@ -9,7 +9,7 @@
 //! - `at_hand`: the requests of a turn, and what takes their answers, as one peer;
 //! - `pace`: when a turn is to be;
 //! - `drops`: which packets were dropped, at most so many of each moment;
-//! - `laws`: what follows of a run that is stopped.
+//! - `laws`: what follows of a run that is stopped, and that its packets are bytes.
 #![tactic(auto)]
 
 mod at_hand;

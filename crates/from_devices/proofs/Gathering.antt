@@ -1,9 +1,11 @@
 -- Packets that are taken one after the other.
-use Rattle.std.proofs.Common.{◌≡◌, ℕ, ◌+◌, ◌≤◌, List, [], ◌∷◌, ◌++◌, length, map, take, drop, Option, Some, None, refl, sym, ap, ◌∙◌, append_assoc, arith, length-drop}
+use Rattle.std.proofs.Common.{◌≡◌, ℕ, zero, suc, ◌+◌, ◌≤◌, ◌<◌, List, [], ◌∷◌, ◌++◌, length, map, take, drop, Option, Some, None, refl, sym, ap, ◌∙◌, append_assoc, arith, length-drop}
+use Rattle.std.specs.Prelude.{slice_index}
 use Rattle.std.specs.List.{flat_map, AllByRecursion}
 use Rattle.std.proofs.lemmas.Grind.{flat_map-append}
 use Rattle.std.proofs.lemmas.List.{append-nil, map-append, length-take-le, take-append-le, take-take}
 use Rattle.std.proofs.Math.Seq.{take-append-add, take-append_seam, drop-append-add}
+use Rattle.packet.specs.Laws.{AreBytes}
 use Rattle.packet.specs.declared.endpoint.Iface.{Iface}
 use Rattle.devices.specs.Handing.{Gives}
 use Rattle.from_devices.specs.Requests.{Gathered, IsPacket, packet_request, request, with_packets}
@@ -27,9 +29,24 @@ packets-then iface x y g =
     let f = packet_request g.told iface in
     rw (append_assoc g.requests (flat_map f x) (flat_map f y), append_assoc g.headers (map (take 10) x) (map (take 10) y), flat_map-append f x y, map-append (take 10) x y) refl
 
+pub all-append : (x y : List (List ℕ)) → AllByRecursion IsPacket x → AllByRecursion IsPacket y → AllByRecursion IsPacket (x ++ y)
+all-append [] y p q = q
+all-append (z ∷ x) y p q = (p.0, all-append x y p.1 q)
+
 pub all-then : (x : List (List ℕ)) (y : List ℕ) → AllByRecursion IsPacket x → IsPacket y → AllByRecursion IsPacket (x ++ y ∷ [])
-all-then [] y p q = (q, tt)
-all-then (z ∷ x) y p q = (p.0, all-then x y p.1 q)
+all-then x y p q = all-append x (y ∷ []) p (q, tt)
+
+first_fits : (x : ℕ) (xs : List ℕ) → x < 256 → AreBytes xs → AreBytes (x ∷ xs)
+first_fits x xs h t = each
+  where
+    each : (i : ℕ) → slice_index (x ∷ xs) i < 256
+    each zero = h
+    each (suc i) = t i
+
+pub take_fits : (n : ℕ) (xs : List ℕ) → AreBytes xs → AreBytes (take n xs)
+take_fits zero xs h = λ i. omega arith
+take_fits (suc n) [] h = λ i. omega arith
+take_fits (suc n) (x ∷ xs) h = first_fits x (take n xs) (h 0) (take_fits n xs (λ j. h (suc j)))
 
 -- bytes written behind the first ones
 pub put_behind : (at n : ℕ) (xs ys : List ℕ) → at ≤ length xs → n ≤ length ys → (k : ℕ) → take (at + n) (put_mid at k xs ys) ≡ take at xs ++ take n ys

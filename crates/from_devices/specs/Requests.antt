@@ -2,13 +2,15 @@
 use Rattle.std.specs.Prelude.{◌≡◌, ◌⊎◌, ℕ, ◌+◌, ◌≤◌, ◌<◌, min, List, [], ◌∷◌, ◌++◌, length, map, take, drop, replicate, nat_lt, if◌then◌else◌}
 use Rattle.std.specs.List.{flat_map}
 use Rattle.byteorder.specs.Endian.{big_bytes}
+use Rattle.packet.specs.Laws.{AreBytes}
 use Rattle.packet.specs.declared.endpoint.Iface.{Iface}
 use Rattle.packet.specs.declared.endpoint.Iface.TheVariants.{Lan, Wan}
 
--- what a device gives: ten bytes of header, and a packet of at most 65,535
+-- what a device gives: ten bytes of header, and a packet of at most 65,535, all of them below 256
 pub record IsPacket (given : List ℕ) : Type 0 where
   pub header : 10 ≤ length given
   pub longest : length given ≤ 65545
+  pub bytes : AreBytes given
 
 abbrev pub interface_byte : Iface → ℕ
 interface_byte Lan = 0

@@ -1,8 +1,9 @@
 //! The frame of one request.
 ghost use Rattle.std.specs.Prelude.{◌≡◌, ◌+◌, ◌<◌, ◌≤◌, ◌^◌, ◌∷◌, ◌++◌, [], ℕ, List, IfNone, IfSome, drop, length, take};
 ghost use Rattle.byteorder.specs.Endian.{big_bytes};
+ghost use Rattle.packet.specs.Laws.{AreBytes};
 ghost use Rattle.devices.specs.Handing.{Gives};
-ghost use Rattle.from_devices.specs.Requests.{interface_byte, packet_request, request};
+ghost use Rattle.from_devices.specs.Requests.{IsPacket, interface_byte, packet_request, request};
 
 use devices::{Device, HEADER, Header, LONGEST_FRAME};
 use packet::Iface;
@@ -76,6 +77,11 @@ fn header_at(frame: &[u8]) -> Header
     header
 }
 
+// The proof of `take_packet` needs the range of bytes, which a function over `&[u8]` knows.
+fn bytes_fit(bytes: &[u8])
+    ensures { AreBytes bytes.now }
+{}
+
 /// Makes the request of the next packet that a device gives, if it has one now, at the front of these bytes. Gives the
 /// packet's header, and says how many bytes the request has. The moment is in seconds.
 pub fn take_packet<D: Device>(
@@ -89,7 +95,7 @@ pub fn take_packet<D: Device>(
         × Gives (D.coming device.old) (D.coming device.new) (given ∷ [])
         × (got.0 ≡ take 10 given)
         × (take got.1 bytes.new ≡ packet_request moment iface given)
-        × (length given ≤ 65545)) }
+        × IsPacket given) }
     ensures size { IfSome result (λ got. got.1 ≤ 65549) }
     ensures none { IfNone result ((D.coming device.new ≡ D.coming device.old)
         × D.has_none device.new) }
@@ -102,6 +108,7 @@ pub fn take_packet<D: Device>(
     let Some(count) = device.receive(place) else {
         return None;
     };
+    bytes_fit(place);
     let header = header_at(place);
     let len = count + REQUEST_HEAD - HEADER;
     put_head(&mut bytes[..len], PACKET, byte_of(iface), moment);

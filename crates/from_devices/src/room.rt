@@ -1,7 +1,7 @@
 //! The bytes of requests, one behind the other, in memory that is kept.
 ghost use Rattle.std.specs.Prelude.{◌≡◌, ◌+◌, ◌≤◌, ◌∷◌, ◌++◌, [], ℕ, List, IfNone, IfOk, IfSome, length, take};
 ghost use Rattle.devices.specs.Handing.{Gives};
-ghost use Rattle.from_devices.specs.Requests.{packet_request, request};
+ghost use Rattle.from_devices.specs.Requests.{IsPacket, packet_request, request};
 
 use crate::framing::{LONGEST_REQUEST, REQUEST_HEAD, put_request, take_packet};
 use devices::{Device, Header};
@@ -81,7 +81,7 @@ impl Room {
             × Gives (D.coming device.old) (D.coming device.new) (given ∷ [])
             × (header ≡ take 10 given)
             × (self.new ≡ self.old ++ packet_request moment iface given)
-            × (length given ≤ 65545)) }
+            × IsPacket given) }
         ensures none { IfNone result ((D.coming device.new ≡ D.coming device.old)
             × D.has_none device.new
             × (self.new ≡ self.old)) }

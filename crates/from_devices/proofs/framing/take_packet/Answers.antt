@@ -1,7 +1,7 @@
 use Rattle.std.proofs.Common.{◌≡◌, ◌+◌, ◌-◌, ◌≤◌, length, take, sym, ◌∙◌, arith}
 use Rattle.std.proofs.lemmas.List.{length-take-le}
 use Rattle.std.proofs.lemmas.Grind.{common_steps}
-use Rattle.from_devices.proofs.Gathering.{packet_taken, header_taken}
+use Rattle.from_devices.proofs.Gathering.{packet_taken, header_taken, take_fits}
 use Rattle.from_devices.proofs.framing.take_packet.Goals as goal
 
 pub returns-clause-some : goal.returns-clause-some
@@ -16,5 +16,9 @@ returns-clause-some g c =
       c.in-Some.ensures.gave,
       c.header_at-header.ensures ∙ sym (header_taken count room least),
       rw (← c.byte_of.ensures) (packet_taken c.args.bytes.now room c.put_head.new.frame count (count + 14 - 10) _ 1 c.byte_of.result c.args.moment (omega arith) (omega (arith, c.requires)) least few c.put_head.ensures _),
-      omega (arith, length-take-le count room few, most),
+      record {
+        header = omega (arith, length-take-le count room few, least);
+        longest = omega (arith, length-take-le count room few, most);
+        bytes = take_fits count room c.bytes_fit.ensures;
+      },
     )
