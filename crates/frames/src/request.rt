@@ -1,6 +1,7 @@
 //! The request at the front of the bytes.
-ghost use Rattle.std.specs.Prelude.{◌≡◌};
-ghost use Rattle.frames.specs.Requests.{without_interface, announced, longest, head_of, IsFront};
+ghost use Rattle.std.specs.Prelude.{◌≡◌, ◌≤◌, length, drop};
+ghost use Rattle.byteorder.specs.Endian.{big_number};
+ghost use Rattle.frames.specs.Requests.{without_interface, announced, longest, head_with, head_of, IsFront};
 
 use crate::fault::HeaderFault;
 use byteorder::{BigEndian, ByteOrder};
@@ -93,16 +94,14 @@ fn longest_of(kind: Kind) -> u32
     }
 }
 
-/// The header at the front, tested once its 14 bytes are there.
+/// The header at the front, whose 14 bytes are there, by what its kind and interface announce.
 #[inline(always)]
-#[tactic(auto, unfolding(crate::specs::Requests::head_of))]
-fn read_head(bytes: &[u8]) -> Head
-    ensures { result ≡ head_of bytes.now }
+fn head_with(kind: Result<Kind, HeaderFault>, bytes: &[u8]) -> Head
+    requires { 14 ≤ length bytes.now }
+    ensures { result ≡ head_with kind (big_number 4 (drop 2 bytes.now))
+        (big_number 8 (drop 6 bytes.now)) }
 {
-    if bytes.len() < REQUEST_HEAD {
-        return Head::Cut;
-    }
-    match announced_by(bytes[0], bytes[1]) {
+    match kind {
         Err(fault) => Head::Bad(fault),
         Ok(kind) => {
             let len = BigEndian::read_u32(&bytes[2..]);
@@ -114,13 +113,14 @@ fn read_head(bytes: &[u8]) -> Head
     }
 }
 
-/// What stands at the front. Compiled into its callers, since each frame is read so.
+/// What stands at the front, by its header.
 #[inline(always)]
 #[tactic(auto, unfolding(crate::specs::Requests::next), using(crate::proofs::Heads::frame_is_short))]
-pub fn read_front(bytes: &[u8]) -> Front
+fn front_with(head: Head, bytes: &[u8]) -> Front
+    requires { head ≡ head_of bytes.now }
     ensures { IsFront result bytes.now }
 {
-    match read_head(bytes) {
+    match head {
         Head::Cut => Front::Cut,
         Head::Bad(fault) => Front::Bad(fault),
         Head::Frame(kind, moment, len) => {
@@ -131,4 +131,39 @@ pub fn read_front(bytes: &[u8]) -> Front
             Front::Whole(kind, moment, end)
         }
     }
+}
+
+/// What stands at the front. Compiled into its callers, since each frame is read so.
+#[inline(always)]
+#[tactic(auto, unfolding(crate::specs::Requests::head_of))]
+pub fn read_front(bytes: &[u8]) -> Front
+    ensures { IsFront result bytes.now }
+{
+    if bytes.len() < REQUEST_HEAD {
+        return front_with(Head::Cut, bytes);
+    }
+    // Nearly all frames bring a packet.
+    if bytes[0] == 1 {
+        return front_with(head_with(packet_from(bytes[1]), bytes), bytes);
+    }
+    read_apart(bytes)
+}
+
+/// As `read_other`. It has its place in memory for what that gives, so that its caller needs none.
+#[inline(always)]
+fn read_apart(bytes: &[u8]) -> Front
+    requires { 14 ≤ length bytes.now }
+    ensures { IsFront result bytes.now }
+{
+    read_other(bytes)
+}
+
+/// What stands at the front, whose header is there.
+#[inline(never)]
+#[tactic(auto, unfolding(crate::specs::Requests::head_of))]
+fn read_other(bytes: &[u8]) -> Front
+    requires { 14 ≤ length bytes.now }
+    ensures { IsFront result bytes.now }
+{
+    front_with(head_with(announced_by(bytes[0], bytes[1]), bytes), bytes)
 }

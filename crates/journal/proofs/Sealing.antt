@@ -1,56 +1,75 @@
--- The body of a sealed buffer.
-use Rattle.std.proofs.Common.{◌≡◌, ℕ, ◌+◌, ◌-◌, ◌<◌, ◌≤◌, ◌^◌, List, [], ◌∷◌, ◌++◌, length, take, drop, sym, ◌∙◌, ap, subst, arith, length-append, length-drop, append_assoc}
-use Rattle.std.proofs.lemmas.List.{take_at, drop_at, take-take, drop-take, drop-append-le, length-take-le}
+-- The body in a sealed buffer.
+use Rattle.std.proofs.Common.{◌≡◌, ℕ, suc, ◌+◌, ◌-◌, ◌<◌, ◌≤◌, ◌^◌, List, [], ◌∷◌, ◌++◌, length, take, drop, refl, sym, ◌∙◌, ap, arith, length-append, length-drop, append_assoc}
+use Rattle.std.proofs.lemmas.List.{take_at, drop_at, drop-append-le, drop-take, length-take-le, take-take}
 use Rattle.byteorder.specs.Endian.{big_bytes}
 use Rattle.byteorder.specs.Numbers.{length-bytes_high_first}
-use Rattle.journal.specs.Groups.{sealed, body_of, IsSealed}
-use Rattle.journal.proofs.Behind.{length-sealed}
+use Rattle.journal.specs.Groups.{Growing, IsSealed, sealed, body_in}
 
-pub body_of-sealed : (body bytes : List ℕ) → bytes ≡ sealed body → body_of bytes ≡ body
-body_of-sealed body bytes is =
-    ap body_of is
-    ∙ ap (λ l. take (length (sealed body) - 5) l) (drop_at (big_bytes 4 (length body)) (body ++ 0 ∷ []) 4 (length-bytes_high_first 4 (length body)))
-    ∙ take_at body (0 ∷ []) (length (sealed body) - 5) (omega (arith, length-sealed body))
+pub length-body_in : (end : ℕ) (bytes : List ℕ) → 4 ≤ end → end ≤ length bytes → length (body_in end bytes) ≡ end - 4
+length-body_in end bytes long within = omega (arith, length-drop 4 (take end bytes), length-take-le end bytes within)
 
-pub is_sealed : (body bytes : List ℕ) → bytes ≡ sealed body → length body < 2 ^ 32 → IsSealed bytes
-is_sealed body bytes is fits =
-    let e = body_of-sealed body bytes is in
-    record { bytes = is ∙ ap sealed (sym e); fits = subst (λ l. length l < 2 ^ 32) (sym e) fits }
+-- what the first bytes are does not depend on those behind
+pub body-kept : (end more : ℕ) (old new : List ℕ) → take (end + more) new ≡ take (end + more) old → body_in end new ≡ body_in end old
+body-kept end more old new e =
+    ap (λ l. drop 4 l) (sym (take-take end (end + more) new (omega arith)) ∙ ap (take end) e ∙ take-take end (end + more) old (omega arith))
 
-length-body_of : (bytes : List ℕ) → 5 ≤ length bytes → length (body_of bytes) ≡ length bytes - 5
-length-body_of bytes long = length-take-le (length bytes - 5) (drop 4 bytes) (omega (arith, length-drop 4 bytes))
+module _ (end count : ℕ) (old : List ℕ) (long : 4 ≤ end) (within : end < length old) (is : count ≡ end - 4) where
+  abbrev size : List ℕ
+  size = big_bytes 4 count
 
-body_behind : (bytes : List ℕ) → 5 ≤ length bytes → drop 4 (take (length bytes - 1) bytes) ≡ body_of bytes
-body_behind bytes long = ap (λ n. drop 4 (take n bytes)) (let e : length bytes - 1 ≡ 4 + (length bytes - 5) = omega (arith, long) in e) ∙ drop-take 4 (length bytes - 5) bytes
+  abbrev body : List ℕ
+  body = body_in end old
 
--- the length before the body, and the 0 behind it
-pub is_seal : (bytes : List ℕ) (count : ℕ) → 5 ≤ length bytes → count ≡ length bytes - 5 → big_bytes 4 count ++ drop 4 (take (length bytes - 1) bytes ++ 0 ∷ []) ≡ sealed (body_of bytes)
-is_seal bytes count long is =
-    let front = take (length bytes - 1) bytes in
-    let size : length front ≡ length bytes - 1 = length-take-le (length bytes - 1) bytes (omega arith) in
-    ap (λ l. big_bytes 4 count ++ l) (drop-append-le 4 front (0 ∷ []) (omega (arith, size, long)) ∙ ap (λ l. l ++ 0 ∷ []) (body_behind bytes long))
-    ∙ ap (λ n. big_bytes 4 n ++ (body_of bytes ++ 0 ∷ [])) (is ∙ sym (length-body_of bytes long))
+  abbrev behind : List ℕ
+  behind = drop (end + 1) old
 
--- an entry behind the body, where the 0 stood
-pub grown : (bytes entry : List ℕ) → 5 ≤ length bytes → body_of (take (length bytes - 1) bytes ++ (entry ++ 0 ∷ [])) ≡ body_of bytes ++ entry
-grown bytes entry long =
-    let front = take (length bytes - 1) bytes in
-    let all = front ++ (entry ++ 0 ∷ []) in
-    let size : length front ≡ length bytes - 1 = length-take-le (length bytes - 1) bytes (omega arith) in
-    let whole : length all ≡ length bytes + length entry = omega (arith, long, length-append front (entry ++ 0 ∷ []), length-append entry (0 ∷ []), size) in
-    let behind : drop 4 all ≡ (body_of bytes ++ entry) ++ 0 ∷ [] =
-    drop-append-le 4 front (entry ++ 0 ∷ []) (omega (arith, size, long)) ∙ ap (λ l. l ++ (entry ++ 0 ∷ [])) (body_behind bytes long) ∙ sym (append_assoc (body_of bytes) entry (0 ∷ [])) in
-    ap (λ k. take (k - 5) (drop 4 all)) whole
-    ∙ ap (λ l. take (length bytes + length entry - 5) l) behind
-    ∙ take_at (body_of bytes ++ entry) (0 ∷ []) (length bytes + length entry - 5) (omega (arith, long, length-append (body_of bytes) entry, length-body_of bytes long))
+  -- the buffer with its length in front, and the 0 behind the body
+  abbrev pub closed : List ℕ
+  closed = size ++ drop 4 (take end old ++ 0 ∷ behind)
+
+  spelled : closed ≡ size ++ (body ++ 0 ∷ behind)
+  spelled = ap (λ l. size ++ l) (drop-append-le 4 (take end old) (0 ∷ behind) (omega (arith, long, within, length-take-le end old (omega arith))))
+
+  size-length : length size ≡ 4
+  size-length = length-bytes_high_first 4 count
+
+  body-length : length body ≡ end - 4
+  body-length = length-body_in end old long (omega arith)
+
+  pub closed_is_sealed : take (end + 1) closed ≡ sealed body
+  closed_is_sealed =
+      let whole : length (size ++ (body ++ 0 ∷ [])) ≡ end + 1 = omega (arith, long, size-length, body-length, length-append size (body ++ 0 ∷ []), length-append body (0 ∷ [])) in
+      ap (take (end + 1)) (spelled ∙ ap (λ l. size ++ l) (sym (append_assoc body (0 ∷ []) behind)) ∙ sym (append_assoc size (body ++ 0 ∷ []) behind))
+      ∙ take_at (size ++ (body ++ 0 ∷ [])) behind (end + 1) whole
+      ∙ ap (λ n. big_bytes 4 n ++ (body ++ 0 ∷ [])) (is ∙ sym body-length)
+
+  pub closed_has_body : body_in end closed ≡ body
+  closed_has_body =
+      let whole : length (size ++ body) ≡ end = omega (arith, long, size-length, body-length, length-append size body) in
+      ap (body_in end) (spelled ∙ sym (append_assoc size body (0 ∷ behind)))
+      ∙ ap (λ l. drop 4 l) (take_at (size ++ body) (0 ∷ behind) end whole)
+      ∙ drop_at size body 4 size-length
+
+-- an entry behind the body
+pub grown : (end : ℕ) (bytes entry : List ℕ) → 4 ≤ end → end ≤ length bytes → (rest : List ℕ) → body_in (end + length entry) (take end bytes ++ (entry ++ rest)) ≡ body_in end bytes ++ entry
+grown end bytes entry long within rest =
+    let size : length (take end bytes) ≡ end = length-take-le end bytes within in
+    ap (λ l. drop 4 (take (end + length entry) l)) (sym (append_assoc (take end bytes) entry rest))
+    ∙ ap (λ l. drop 4 l) (take_at (take end bytes ++ entry) rest (end + length entry) (omega (arith, size, length-append (take end bytes) entry)))
+    ∙ drop-append-le 4 (take end bytes) entry (omega (arith, size, long))
 
 -- the first bytes of the body
-pub cut : (bytes : List ℕ) (n : ℕ) → n + 5 ≤ length bytes → body_of (take (n + 5) bytes) ≡ take n (body_of bytes)
-cut bytes n short =
-    let size : length (take (n + 5) bytes) ≡ n + 5 = length-take-le (n + 5) bytes short in
-    let behind : drop 4 (take (n + 5) bytes) ≡ take (n + 1) (drop 4 bytes) = ap (λ k. drop 4 (take k bytes)) (let e : n + 5 ≡ 4 + (n + 1) = omega arith in e) ∙ drop-take 4 (n + 1) bytes in
-    ap (λ k. take (k - 5) (drop 4 (take (n + 5) bytes))) size
-    ∙ ap (λ k. take k (drop 4 (take (n + 5) bytes))) (let e : n + 5 - 5 ≡ n = omega arith in e)
-    ∙ ap (λ l. take n l) behind
-    ∙ take-take n (n + 1) (drop 4 bytes) (omega arith)
-    ∙ sym (take-take n (length bytes - 5) (drop 4 bytes) (omega (arith, short)))
+pub cut : (end len : ℕ) (bytes : List ℕ) → len + 4 ≤ end → body_in (len + 4) bytes ≡ take len (body_in end bytes)
+cut end len bytes short =
+    ap (λ l. drop 4 l) (sym (take-take (len + 4) end bytes short) ∙ ap (λ n. take n (take end bytes)) (let e : len + 4 ≡ 4 + len = omega arith in e))
+    ∙ drop-take 4 len (take end bytes)
+
+-- ---- the buffer of a group
+
+-- a body has as many bytes
+pub room-in : (end : ℕ) (bytes : List ℕ) (g : Growing) → IsSealed end bytes → record { body = body_in end bytes; room = length bytes - (end + 1) } ≡ g → (length g.body ≡ end - 4) × (g.room ≡ length bytes - (end + 1))
+room-in end bytes g i is = (ap (λ v. length v.body) (sym is) ∙ length-body_in end bytes i.long (omega (arith, i.within)), ap (λ v. v.room) (sym is))
+
+-- what is sealed at a place, as it is written back
+pub is_sealed : (end : ℕ) (bytes holds : List ℕ) → 4 ≤ end → end < length bytes → end < 2 ^ 32 + 4 → take (end + 1) bytes ≡ sealed holds → body_in end bytes ≡ holds → IsSealed end bytes
+is_sealed end bytes holds long within fits s is = record { sealed_is = s ∙ ap sealed (sym is); long = long; within = within; fits = fits }

@@ -1,5 +1,5 @@
 -- Groups of entries in a file.
-use Rattle.std.specs.Prelude.{◌<◌, ◌≡◌, ◌≢◌, ◌⊎◌, ℕ, ◌+◌, ◌-◌, ◌^◌, List, [], ◌∷◌, ◌++◌, length, take, drop, get_or, map, Option, Some, None, Vec}
+use Rattle.std.specs.Prelude.{◌<◌, ◌≤◌, ◌≡◌, ◌≢◌, ◌⊎◌, ℕ, ◌+◌, ◌-◌, ◌^◌, List, [], ◌∷◌, ◌++◌, length, take, drop, get_or, map, Option, Some, None, Vec}
 use Rattle.std.specs.List.{All}
 use Rattle.std.specs.declared.alloc.Global.{Global}
 use Rattle.byteorder.specs.Endian.{big_bytes}
@@ -15,12 +15,16 @@ pub record Growing : Type 0 where
   pub body : List ℕ
   pub room : ℕ
 
-abbrev pub body_of : List ℕ → List ℕ
-body_of bytes = take (length bytes - 5) (drop 4 bytes)
+-- the body in a buffer: behind the four bytes of its length, up to where it ends
+abbrev pub body_in : ℕ → List ℕ → List ℕ
+body_in end bytes = drop 4 (take end bytes)
 
-pub record IsSealed (buffer : List ℕ) : Type 0 where
-  pub bytes : buffer ≡ sealed (body_of buffer)
-  pub fits : length (body_of buffer) < 2 ^ 32
+-- up to the byte where its body ends the buffer holds this body sealed
+pub record IsSealed (end : ℕ) (bytes : List ℕ) : Type 0 where
+  pub sealed_is : take (end + 1) bytes ≡ sealed (body_in end bytes)
+  pub long : 4 ≤ end
+  pub within : end < length bytes
+  pub fits : end < 2 ^ 32 + 4
 
 -- open groups of these bodies: each an open gate, its length and its body
 abbrev pub open_groups : List (List ℕ) → List ℕ

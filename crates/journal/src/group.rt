@@ -1,7 +1,7 @@
 //! The buffer in which the body of a group grows.
 ghost use Rattle.std.specs.Prelude.{◌≡◌, ◌+◌, ◌-◌, ◌<◌, ◌≤◌, ◌^◌, [], ◌∷◌, ◌++◌, length, take, drop, IfOk, OnOk, OnErr, IsOk, nat_eq, vec_capacity};
 ghost use Rattle.byteorder.specs.Endian.{big_bytes};
-ghost use Rattle.journal.specs.Groups.{body_of, sealed, IsSealed};
+ghost use Rattle.journal.specs.Groups.{body_in, sealed};
 
 use byteorder::{BigEndian, ByteOrder};
 use std::alloc::{AllocError, Global};
@@ -13,20 +13,22 @@ use std::marker::Model;
 #[derive(Drop)]
 pub struct Group {
     bytes: Vec<u8>,
+    /// Where the body ends; the byte there is 00, and those behind it are room.
+    end: usize,
 }
 
 impl Model for Group {
-    ghost use Rattle.std.specs.Prelude.{◌-◌, length, vec_capacity};
-    ghost use Rattle.journal.specs.Groups.{Growing, body_of, IsSealed};
+    ghost use Rattle.std.specs.Prelude.{◌+◌, ◌-◌, length};
+    ghost use Rattle.journal.specs.Groups.{Growing, body_in, IsSealed};
 
     ghost Value = { Growing };
 
     ghost view = { λ g. record {
-      body = body_of g.bytes.items;
-      room = vec_capacity g.bytes - length g.bytes.items;
+      body = body_in g.end g.bytes.items;
+      room = length g.bytes.items - (g.end + 1);
     } };
 
-    ghost invariant = { λ g. IsSealed g.bytes.items };
+    ghost invariant = { λ g. IsSealed g.end g.bytes.items };
 }
 
 impl Group {
@@ -39,7 +41,7 @@ impl Group {
         ensures { IfOk result (λ group. group.body ≡ []) }
     {
         let bytes = Vec::from_slice(alloc, &[0; 5])?;
-        Ok(Group { bytes })
+        Ok(Group { bytes, end: 4 })
     }
 
     /// The bytes that follow the gate in a file: the length of the body (4 bytes, big-endian), the body, and 00.
@@ -47,21 +49,21 @@ impl Group {
         ensures bytes { result.now ≡ sealed self.now.body }
         ensures fits { length self.now.body < 2 ^ 32 }
     {
-        &self.bytes
+        &self.bytes.as_slice()[..self.end + 1]
     }
 
     /// The length of the body, in bytes.
     pub fn len(&self) -> usize
         ensures { result ≡ length self.now.body }
     {
-        self.bytes.len() - 5
+        self.end - 4
     }
 
     /// Whether the body has no byte.
     pub fn is_empty(&self) -> bool
         ensures { result ≡ nat_eq (length self.now.body) 0 }
     {
-        self.bytes.len() == 5
+        self.end == 4
     }
 
     /// Makes room for so many bytes more, which can then be put without memory.
@@ -76,20 +78,20 @@ impl Group {
         ensures succeeds { bytes ≤ self.old.room → IsOk result }
         ensures room { self.old.room ≤ self.new.room }
     {
-        self.bytes.reserve(bytes)
+        make_room(&mut self.bytes, self.end + 1, bytes)
     }
 
     /// Puts the bytes of an entry behind the body, for which there is room. The body then has fewer than 2^32 bytes.
+    // Compiled into its callers, which know how long an entry is.
+    #[inline(always)]
     pub fn put(&mut self, entry: &[u8])
         requires room { length entry.now ≤ self.old.room }
         requires fits { length self.old.body + length entry.now < 2 ^ 32 }
         ensures body { self.new.body ≡ self.old.body ++ entry.now }
         ensures room { self.old.room ≤ self.new.room + length entry.now }
     {
-        match grow(&mut self.bytes, entry) {
-            Ok(()) => {}
-            Err(_) => unreachable!(),
-        }
+        put_behind(&mut self.bytes, self.end, entry);
+        self.end += entry.len();
     }
 
     /// Makes room for the bytes of an entry, and puts them behind the body, which then has fewer than 2^32.
@@ -102,7 +104,9 @@ impl Group {
         ensures ok { OnOk result (self.new.body ≡ self.old.body ++ entry.now) }
         ensures err { OnErr result (self.new.body ≡ self.old.body) }
     {
-        grow(&mut self.bytes, entry)
+        self.reserve(entry.len())?;
+        self.put(entry);
+        Ok(())
     }
 
     /// Keeps the first `len` bytes of the body. The others become room.
@@ -111,8 +115,8 @@ impl Group {
         ensures body { self.new.body ≡ take len self.old.body }
         ensures room { self.old.room + (length self.old.body - len) ≤ self.new.room }
     {
-        self.bytes.truncate(len + 5);
-        seal(&mut self.bytes);
+        seal(&mut self.bytes, len + 4);
+        self.end = len + 4;
     }
 
     /// Takes all entries out. The whole body becomes room.
@@ -124,55 +128,71 @@ impl Group {
     }
 }
 
-// Puts bytes between the body and the 00 behind it.
-fn grow(bytes: &mut Vec<u8>, entry: &[u8]) -> Result<(), AllocError>
-    requires long { 5 ≤ length bytes.old.items }
-    requires fits { length bytes.old.items + length entry.now < 2 ^ 32 + 5 }
-    ensures ok { OnOk result (bytes.new.items ≡ sealed (body_of bytes.old.items ++ entry.now)) }
-    ensures err { OnErr result (bytes.new.items ≡ bytes.old.items) }
-    ensures succeeds { length bytes.old.items + length entry.now ≤ vec_capacity bytes.old
-        → IsOk result }
-    ensures capacity { vec_capacity bytes.old ≤ vec_capacity bytes.new }
-    ensures len { OnOk result (length bytes.new.items ≡ length bytes.old.items + length entry.now) }
+// Makes room for so many bytes behind the first `len`.
+fn make_room(bytes: &mut Vec<u8>, len: usize, more: usize) -> Result<(), AllocError>
+    requires within { len ≤ length bytes.old.items }
+    ensures front { take len bytes.new.items ≡ take len bytes.old.items }
+    ensures longer { length bytes.old.items ≤ length bytes.new.items }
+    ensures ok { OnOk result (len + more ≤ length bytes.new.items) }
+    ensures succeeds { len + more ≤ length bytes.old.items → IsOk result }
 {
-    bytes.reserve(entry.len())?;
-    put_before_last(bytes, entry);
-    seal(bytes);
-    Ok(())
+    if bytes.len() - len >= more {
+        return Ok(());
+    }
+    let Some(all) = len.checked_add(more) else {
+        return Err(AllocError);
+    };
+    bytes.resize(all, 0)
 }
 
-// Puts bytes, for which there is room, in front of the last one, which becomes 00.
-fn put_before_last(bytes: &mut Vec<u8>, entry: &[u8])
-    requires some { 1 ≤ length bytes.old.items }
-    requires room { length bytes.old.items + length entry.now ≤ vec_capacity bytes.old }
-    ensures items { bytes.new.items
-        ≡ take (length bytes.old.items - 1) bytes.old.items ++ (entry.now ++ 0 ∷ []) }
-    ensures capacity { vec_capacity bytes.old ≤ vec_capacity bytes.new }
+// Puts an entry behind a body that ends there, and seals it.
+#[inline(always)]
+fn put_behind(bytes: &mut [u8], end: usize, entry: &[u8])
+    requires long { 4 ≤ end }
+    requires room { end + length entry.now < length bytes.old }
+    requires fits { end + length entry.now < 2 ^ 32 + 4 }
+    ensures sealed { take (end + length entry.now + 1) bytes.new
+        ≡ sealed (body_in end bytes.old ++ entry.now) }
+    ensures body { body_in (end + length entry.now) bytes.new
+        ≡ body_in end bytes.old ++ entry.now }
+    ensures size { length bytes.new ≡ length bytes.old }
 {
-    bytes.truncate(bytes.len() - 1);
-    let _ = bytes.extend_from_slice(entry);
-    let _ = bytes.push(0);
+    put_at(bytes, end, entry);
+    seal(bytes, end + entry.len());
 }
 
-// Writes the length before the body, and the 00 behind it.
-#[tactic(auto, using(crate::proofs::Sealing::is_seal))]
-fn seal(bytes: &mut [u8])
-    requires long { 5 ≤ length bytes.old }
-    requires fits { length bytes.old < 2 ^ 32 + 5 }
-    ensures { bytes.new ≡ sealed (body_of bytes.old) }
+// Puts bytes at a place, over those that are there.
+#[inline(always)]
+fn put_at(bytes: &mut [u8], at: usize, entry: &[u8])
+    requires { at + length entry.now ≤ length bytes.old }
+    ensures { bytes.new ≡ take at bytes.old ++ (entry.now ++ drop (at + length entry.now) bytes.old) }
 {
-    close(bytes);
-    write_size(bytes, (bytes.len() - 5) as u32);
+    bytes[at..at + entry.len()].copy_from_slice(entry);
 }
 
-fn close(bytes: &mut [u8])
-    requires { 1 ≤ length bytes.old }
-    ensures { bytes.new ≡ take (length bytes.old - 1) bytes.old ++ 0 ∷ [] }
+// Writes the length before a body that ends there, and the 00 behind it.
+#[inline(always)]
+fn seal(bytes: &mut [u8], end: usize)
+    requires long { 4 ≤ end }
+    requires within { end < length bytes.old }
+    requires fits { end < 2 ^ 32 + 4 }
+    ensures sealed { take (end + 1) bytes.new ≡ sealed (body_in end bytes.old) }
+    ensures body { body_in end bytes.new ≡ body_in end bytes.old }
+    ensures size { length bytes.new ≡ length bytes.old }
 {
-    let last = bytes.len() - 1;
-    bytes[last] = 0;
+    close(bytes, end);
+    write_size(bytes, (end - 4) as u32);
 }
 
+#[inline(always)]
+fn close(bytes: &mut [u8], end: usize)
+    requires { end < length bytes.old }
+    ensures { bytes.new ≡ take end bytes.old ++ 0 ∷ drop (end + 1) bytes.old }
+{
+    bytes[end] = 0;
+}
+
+#[inline(always)]
 fn write_size(bytes: &mut [u8], count: u32)
     requires { 4 ≤ length bytes.old }
     ensures { bytes.new ≡ big_bytes 4 count ++ drop 4 bytes.old }
