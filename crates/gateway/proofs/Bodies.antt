@@ -1,13 +1,12 @@
 -- The entries that a body has.
-use Rattle.std.proofs.Common.{◌≡◌, ◌≢◌, inl, ℕ, zero, suc, ◌+◌, ◌<◌, ◌≤◌, List, [], ◌∷◌, ◌++◌, length, refl, sym, ap, subst, ◌∙◌, length-append, arith}
+use Rattle.std.proofs.Common.{◌≡◌, ◌≢◌, ℕ, zero, suc, ◌+◌, ◌<◌, ◌≤◌, List, [], ◌∷◌, ◌++◌, length, refl, sym, ap, subst, ◌∙◌, length-append, arith}
 use Rattle.std.proofs.lemmas.List.{append-nil}
 use Rattle.std.proofs.lemmas.List.Concat.{flat_map-cons, flat_map-append}
 use Rattle.durable.specs.Coding.{Entry, entry_bytes, body_bytes, IsEntry, AreEntries}
 use Rattle.durable.specs.Reading.{entry_at}
 use Rattle.durable.proofs.Values.{coded-entry}
 use Rattle.durable.proofs.Bodies.{length-entry}
-use Rattle.machine.specs.declared.event.Answer.{Answer}
-use Rattle.gateway.specs.HeldAnswers.{entries_at, entries_in, behind_it, IsPending}
+use Rattle.gateway.specs.HeldAnswers.{HasGroup, entries_at, entries_in, behind_it}
 
 pub length-entries : (es : List Entry) → length es ≤ length (body_bytes es)
 length-entries [] = omega arith
@@ -58,10 +57,10 @@ more_coded [] e are is = (is, tt)
 more_coded (f ∷ es) e are is = (are.0, more_coded es e are.1 is)
 
 -- one entry more stands behind the others, in the room that there is for entries
-pub one_more : (body new : List ℕ) (spare new_spare capacity : ℕ) (held : List (ℕ × Answer)) (place room left : ℕ) (e : Entry) → IsPending body spare capacity held place room
+pub one_more : (body new : List ℕ) (spare new_spare place room left : ℕ) (e : Entry) → HasGroup body spare place room
     → IsEntry e → length (entry_bytes e) ≤ room → new ≡ body ++ entry_bytes e → spare ≤ new_spare + length (entry_bytes e) → left + length new ≡ room + length body
-    → IsPending new new_spare capacity held place left
-one_more body new spare new_spare capacity held place room left e was is le put less rest =
+    → HasGroup new new_spare place left
+one_more body new spare new_spare place room left e was is le put less rest =
     let more = length-entry e in
     let long = ap length put ∙ length-append body (entry_bytes e) in
     record {
@@ -69,15 +68,11 @@ one_more body new spare new_spare capacity held place room left e was is le put 
       coded = more_coded was.entries e was.coded is;
       are = put ∙ ap (λ (l : List ℕ). l ++ entry_bytes e) was.are ∙ sym (more_bytes was.entries e);
       has_room = let spare_was = was.has_room in omega (arith, spare_was, less, rest, long);
-      has_places = λ used. was.has_places (inl (omega (arith, le, more)));
       fits = λ some. let fit = was.fits (omega (arith, le, more)) in omega (arith, fit, rest);
-      few = was.few;
-      needed = λ _ none. let is_none = ap length none in omega (arith, is_none, long, more);
     }
 
-pub one_more_noted : (body new : List ℕ) (spare capacity : ℕ) (held : List (ℕ × Answer)) (place room : ℕ) (e : Entry) → IsPending body spare capacity held place room → IsEntry e
-    → new ≡ body ++ entry_bytes e → entries_in new ≡ entries_in body ++ e ∷ []
-one_more_noted body new spare capacity held place room e was is put =
+pub one_more_noted : (body new : List ℕ) (spare place room : ℕ) (e : Entry) → HasGroup body spare place room → IsEntry e → new ≡ body ++ entry_bytes e → entries_in new ≡ entries_in body ++ e ∷ []
+one_more_noted body new spare place room e was is put =
     entries_of new (was.entries ++ e ∷ []) (more_coded was.entries e was.coded is) (put ∙ ap (λ (l : List ℕ). l ++ entry_bytes e) was.are ∙ sym (more_bytes was.entries e))
     ∙ ap (λ (l : List Entry). l ++ e ∷ []) (sym (entries_of body was.entries was.coded was.are))
 

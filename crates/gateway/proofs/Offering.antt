@@ -19,24 +19,23 @@ use Rattle.machine.specs.declared.event.Answer.{Answer}
 use Rattle.machine.specs.declared.event.Event.{Event}
 use Rattle.entries.proofs.Whole.{step-entered}
 use Rattle.entries.proofs.Needed.{empty-needs, needs-empty, some-entries}
-use Rattle.gateway.specs.Given.{handed, number_of}
-use Rattle.gateway.specs.Told.{Took}
+use Rattle.gateway.specs.Given.{handed}
 use Rattle.gateway.specs.declared.given.Given.{Given}
 use Rattle.gateway.specs.declared.given.Given.TheVariants as given
 use Rattle.gateway.specs.Kept.{IsRoomy, LeadsToPresent}
 
 -- the entries of one more event make what the files stand for the present state
-pub takes_in : (config : Config) (files : Files) (were are entries : List Entry) (s new : State) (event : Event) (judged : Judged) (answer : Answer) → IsTrue (is_config config)
-    → IsSoundState config s → LeadsToPresent config files were s → IsJudged config event judged → step config s judged ≡ (new, answer) → AreEntriesOf config s judged entries
-    → are ≡ were ++ entries → LeadsToPresent config files are new
-takes_in config files were are entries s new event judged answer is_one sound was is_judged steps of same =
+pub takes_in : (config own : Config) (files : Files) (were are entries : List Entry) (s new : State) (event : Event) (judged : Judged) (answer : Answer) → own ≡ config
+    → IsTrue (is_config config) → IsSoundState config s → LeadsToPresent config files were s → IsJudged config event judged → step config s judged ≡ (new, answer) → AreEntriesOf config s judged entries
+    → are ≡ were ++ entries → LeadsToPresent own files are new
+takes_in config own files were are entries s new event judged answer stays is_one sound was is_judged steps of same =
     let on : Enters config entries (lasting s) (lasting new) =
     subst (λ (p : State × Answer). Enters config entries (lasting s) (lasting p.0)) steps (step-entered config is_one s judged entries sound is_judged.right of) in
-    record {
+    subst (λ (c : Config). LeadsToPresent c files are new) (sym stays) (record {
       durable = was.durable;
       recovers = was.recovers;
       enters = subst (λ (es : List Entry). Enters config es was.durable (lasting new)) (sym same) ((enters_once config).join were entries was.durable (lasting s) (lasting new) was.enters on);
-    }
+    })
 
 right_none : (were entries : List Entry) → were ++ entries ≡ [] → entries ≡ []
 right_none were entries none =
@@ -98,22 +97,6 @@ pub roomy_enough : (config : Config) (s : State) (now filled : ℕ) (gone : List
     → 67108864 < filled + (14 * length gone + most_bytes d) + 6 → ⊥
 roomy_enough config s now filled gone d sound over right roomy too =
     let few = few_over config s now gone sound over in let bytes = few_bytes config d right in omega (arith, roomy, too, few, bytes)
-
--- the event was taken, as it is judged
-pub took_in : (config own : Config) (s new : State) (last : ℕ) (held mid after : List (ℕ × Answer)) (event : Event) (judged : Judged) (answer : Answer) (given : Given)
-    → IsJudged config event judged → own ≡ config → step config s judged ≡ (new, answer) → mid ≡ held → number_of given ≡ last + 1
-    → handed given ++ after ≡ mid ++ (last + 1, answer) ∷ []
-    → Took (record { config = config; state = s; last = last; held = held }) (record { config = own; state = new; last = last + 1; held = after }) event given
-took_in config own s new last held mid after event judged answer given is_judged same steps stays number order = record {
-  judged = judged;
-  is_judged = is_judged;
-  config = same;
-  state = sym (ap (λ (p : State × Answer). p.0) steps);
-  last = refl;
-  number = number;
-  order = order ∙ ap (λ (h : List (ℕ × Answer)). h ++ (last + 1, answer) ∷ []) stays
-      ∙ ap (λ (a : Answer). held ++ (last + 1, a) ∷ []) (sym (ap (λ (p : State × Answer). p.1) steps));
-}
 
 -- an event whose answer is handed out, so that none is held, found none held
 pub held_before : (given : Given) (before now : List (ℕ × Answer)) (one : ℕ × Answer) → handed given ++ now ≡ before ++ one ∷ [] → now ≡ [] → before ≡ []

@@ -1,113 +1,71 @@
 -- Whether an event is taken.
-use Rattle.std.proofs.Common.{◌≡◌, ◌≢◌, ◌⊎◌, ◌↔◌, inl, inr, ℕ, ◌+◌, ◌-◌, ◌^◌, ◌<◌, true, false, List, [], ◌∷◌, ◌++◌, length, refl, sym, ◌∙◌, ap, subst, arith, IsTrue}
+use Rattle.std.proofs.Common.{◌≡◌, ◌≢◌, ◌⊎◌, ◌↔◌, inl, inr, ℕ, ◌+◌, ◌-◌, ◌^◌, ◌<◌, false, List, [], ◌∷◌, ◌++◌, length, sym, ◌∙◌, ap, subst, arith, IsTrue}
 use Rattle.std.proofs.lemmas.Bool.{cases_lt, false≢true}
-use Rattle.packet.specs.Config.{Config, is_config}
-use Rattle.packet.specs.declared.endpoint.Iface.{Iface}
+use Rattle.packet.specs.Config.{is_config}
 use Rattle.durable.specs.Coding.{Entry, body_bytes}
-use Rattle.machine.specs.Judged.{Judged, IsJudged, IsNoLoad, brought}
-use Rattle.machine.specs.Machine.{EndsNone, KeepsCount, State, act, aged, later, step}
+use Rattle.machine.specs.Judged.{Judged, IsJudged, IsNoLoad}
+use Rattle.machine.specs.Machine.{EndsNone, KeepsCount, State, later, step}
 use Rattle.machine.specs.Noted.{AreEntriesOf, HasEntry}
 use Rattle.machine.specs.Sizes.{most_bytes}
 use Rattle.machine.specs.Sound.{IsSoundState}
-use Rattle.machine.specs.declared.deed.Deed.{Deed}
-use Rattle.machine.specs.declared.deed.Deed.TheVariants as deed
 use Rattle.machine.specs.declared.event.Answer.{Answer}
-use Rattle.machine.specs.declared.event.Answer.TheVariants as answered
 use Rattle.machine.specs.declared.event.Event.{Event}
-use Rattle.machine.specs.declared.event.What.TheVariants.{Load}
-use Rattle.gateway.specs.Given.{IsNow, handed}
+use Rattle.gateway.specs.Given.{IsNow, answer_given, given_by, handed}
 use Rattle.gateway.specs.HeldAnswers.{Gives, HeldAnswers}
 use Rattle.gateway.specs.Kept.{Kept, IsTooMuch}
-use Rattle.gateway.specs.Taking.{IsNoPacket, Refuses, Takes}
+use Rattle.gateway.specs.Taking.{Refuses, TakesInPlace}
 use Rattle.gateway.specs.declared.fault.GatewayFault.{GatewayFault}
 use Rattle.gateway.specs.declared.fault.GatewayFault.TheVariants as fault
-use Rattle.gateway.specs.declared.given.Given.{Given}
+use Rattle.gateway.specs.declared.given.GivenInPlace.{GivenInPlace}
 use Rattle.gateway.proofs.Bodies.{filled-on}
 use Rattle.gateway.proofs.Offering.{at_once, none_of, roomy_enough}
 
 -- its step is done, and its answer is given
-pub takes_step : {D : Type 0} (old new : Kept D) (event : Event) (judged : Judged) (entries : List Entry) (one : Answer) (given : Given) (were mid are : HeldAnswers)
+pub takes_step : {D : Type 0} (old new : Kept D) (event : Event) (judged : Judged) (entries : List Entry) (one : Answer) (taken : GivenInPlace) (packet : List ℕ) (were mid are : HeldAnswers)
     → IsTrue (is_config old.told.config) → IsSoundState old.told.config old.told.state → IsJudged old.told.config event judged
     → step old.told.config old.told.state judged ≡ (new.told.state, one) → AreEntriesOf old.told.config old.told.state judged entries → mid.entries ≡ were.entries ++ entries
-    → mid.place ≡ were.place → mid.held ≡ were.held → Gives mid are given (old.told.last + 1, one) → (were.held ≡ [] → were.entries ≡ [])
+    → mid.place ≡ were.place → mid.held ≡ were.held → Gives mid are (given_by taken packet) (old.told.last + 1, one) → answer_given taken packet ≡ (old.told.last + 1, one)
+    → (were.held ≡ [] → were.entries ≡ [])
     → ((other : Judged) → IsJudged old.told.config event other → judged ≡ other) → old.told.held ≡ were.held → new.told.held ≡ are.held
     → old.filled ≡ were.place + length (body_bytes were.entries) → new.filled ≡ are.place + length (body_bytes are.entries) → new.told.config ≡ old.told.config
-    → new.told.last ≡ old.told.last + 1 → old.fallen ≡ false → old.told.last < 2 ^ 64 - 1 → length old.told.held < 64 → Takes old new event given
-takes_step old new event judged entries one given were mid are is_one sound is_judged steps of noted place held gives none once was is filled_was filled_is config last stands left few = record {
-  took = record {
-    judged = judged;
-    is_judged = is_judged;
-    config = config;
-    state = sym (ap (λ (p : State × Answer). p.0) steps);
-    last = last;
-    number = gives.number ∙ sym last;
-    order = ap (λ (h : List (ℕ × Answer)). handed given ++ h) is ∙ gives.order ∙ ap (λ (h : List (ℕ × Answer)). h ++ (old.told.last + 1, one) ∷ []) (held ∙ sym was)
-        ∙ ap (λ (a : Answer). old.told.held ++ (old.told.last + 1, a) ∷ []) (sym (ap (λ (p : State × Answer). p.1) steps));
-  };
-  now = λ other is_other.
-      subst (λ (j : Judged). IsNow given ↔ ((old.told.held ≡ []) × ¬ HasEntry old.told.config old.told.state j)) (once other is_other)
-      (at_once old.told.config old.told.state event judged entries were.entries mid.entries old.told.held mid.held (IsNow given) is_one sound is_judged of noted
-      (λ empty. none (sym was ∙ empty)) (held ∙ sym was) gives.now gives.quiet);
-  filled = (
-    judged,
-    entries,
-    is_judged,
-    of,
-    filled_is ∙ filled-on were.place are.place were.entries are.entries entries (gives.place ∙ place) (gives.entries ∙ noted)
-        ∙ ap (λ (n : ℕ). n + length (body_bytes entries)) (sym filled_was),
-  );
-  stood = stands;
-  numbers_left = left;
-  held_few = few;
-}
-
--- ---- an event without a packet
-
-answers_inside : (config : Config) (s : State) (d : Deed) → IsNoPacket (brought d) → (iface : Iface) (packet : List ℕ) → (act config s d).1 ≡ answered.Forward iface packet → ⊥
-answers_inside config s (deed.Take text rules) none iface packet is = let bad : answered.Loaded ≡ answered.Forward iface packet = is in absurd cc
-answers_inside config s (deed.Refuse text) none iface packet is = let bad : answered.Refused ≡ answered.Forward iface packet = is in absurd cc
-answers_inside config s (deed.Packet from bytes) none iface packet is = none from bytes refl
-answers_inside config s deed.Moment none iface packet is = let bad : answered.Ticked ≡ answered.Forward iface packet = is in absurd cc
-
--- none leaves
-pub none_leaves : (config : Config) (s new : State) (event : Event) (judged : Judged) (one : Answer) → IsNoPacket event.what → IsJudged config event judged
-    → step config s judged ≡ (new, one) → (iface : Iface) (packet : List ℕ) → one ≡ answered.Forward iface packet → ⊥
-unfolding step
-none_leaves config s new event judged one none is_judged steps iface packet is =
-    answers_inside config (aged (later s.clock judged.moment) s) judged.deed (λ from bytes same. none from bytes (is_judged.what ∙ same)) iface packet
-    (ap (λ (p : State × Answer). p.1) steps ∙ is)
+    → new.told.last ≡ old.told.last + 1 → old.fallen ≡ false → old.told.last < 2 ^ 64 - 1 → length old.told.held < 64 → TakesInPlace old new event taken packet
+takes_step old new event judged entries one taken packet were mid are is_one sound is_judged steps of noted place held gives told none once was is filled_was filled_is config last stands left few =
+    let given = given_by taken packet in
+    let order : handed given ++ new.told.held ≡ old.told.held ++ (old.told.last + 1, one) ∷ [] =
+    ap (λ (h : List (ℕ × Answer)). handed given ++ h) is ∙ gives.order ∙ ap (λ (h : List (ℕ × Answer)). h ++ (old.told.last + 1, one) ∷ []) (held ∙ sym was) in
+    record {
+      takes = record {
+        took = record {
+          judged = judged;
+          is_judged = is_judged;
+          config = config;
+          state = sym (ap (λ (p : State × Answer). p.0) steps);
+          last = last;
+          number = gives.number ∙ sym last;
+          order = order ∙ ap (λ (a : Answer). old.told.held ++ (old.told.last + 1, a) ∷ []) (sym (ap (λ (p : State × Answer). p.1) steps));
+        };
+        now = λ other is_other.
+            subst (λ (j : Judged). IsNow given ↔ ((old.told.held ≡ []) × ¬ HasEntry old.told.config old.told.state j)) (once other is_other)
+            (at_once old.told.config old.told.state event judged entries were.entries mid.entries old.told.held mid.held (IsNow given) is_one sound is_judged of noted
+            (λ empty. none (sym was ∙ empty)) (held ∙ sym was) gives.now gives.quiet);
+        filled = (
+          judged,
+          entries,
+          is_judged,
+          of,
+          filled_is ∙ filled-on were.place are.place were.entries are.entries entries (gives.place ∙ place) (gives.entries ∙ noted)
+              ∙ ap (λ (n : ℕ). n + length (body_bytes entries)) (sym filled_was),
+        );
+        stood = stands;
+        numbers_left = left;
+        held_few = few;
+      };
+      answer = order ∙ ap (λ (a : ℕ × Answer). old.told.held ++ a ∷ []) (sym told);
+    }
 
 -- ---- why an event isn't taken
 
 module _ {D : Type 0} (old : Kept D) (event : Event) (why : GatewayFault) where
-  -- whatever it is
-  pub refuses_any : (why ≡ fault.Reopen) ↔ (old.fallen ≡ true) → (why ≡ fault.NumbersOut) ↔ ((old.fallen ≡ false) × (old.told.last ≡ 2 ^ 64 - 1))
-      → (why ≡ fault.HeldFull) ↔ ((old.fallen ≡ false) × (old.told.last < 2 ^ 64 - 1) × (length old.told.held ≡ 64))
-      → (why ≡ fault.Reopen) ⊎ (why ≡ fault.NumbersOut) ⊎ (why ≡ fault.HeldFull) → Refuses old event why
-  refuses_any reopen numbers_out held_full causes = record {
-    reopen = reopen;
-    numbers_out = numbers_out;
-    held_full = held_full;
-    full = λ is. absurd (other fault.Full is (λ bad. absurd cc) (λ bad. absurd cc) (λ bad. absurd cc));
-    roomy = λ room is. other fault.Full is (λ bad. absurd cc) (λ bad. absurd cc) (λ bad. absurd cc);
-    no_memory = λ none judged is_judged ends keeps is. absurd (other fault.NoMemory is (λ bad. absurd cc) (λ bad. absurd cc) (λ bad. absurd cc));
-    causes = (
-      λ is. other fault.Device is (λ bad. absurd cc) (λ bad. absurd cc) (λ bad. absurd cc),
-      λ is. other fault.Generations is (λ bad. absurd cc) (λ bad. absurd cc) (λ bad. absurd cc),
-    );
-    quiet = λ stands left few none judged is_judged needless. elim causes [
-      | inl is ↦ false≢true (sym stands ∙ reopen.0 is)
-      | inr more ↦ elim more [
-        | inl is ↦ let last = (numbers_out.0 is).1 in omega (arith, left, last)
-        | inr is ↦ let held = (held_full.0 is).2 in omega (arith, few, held)
-      ]
-    ];
-  }
-    where
-      other : (which : GatewayFault) → why ≡ which → which ≢ fault.Reopen → which ≢ fault.NumbersOut → which ≢ fault.HeldFull → ⊥
-      other which is first second third =
-          elim causes [ inl e ↦ first (sym is ∙ e) | inr more ↦ elim more [ inl e ↦ second (sym is ∙ e) | inr e ↦ third (sym is ∙ e) ] ]
-
   -- its step isn't done
   pub refuses_step : old.fallen ≡ false → old.told.last < 2 ^ 64 - 1 → length old.told.held < 64 → IsTrue (is_config old.told.config) → IsSoundState old.told.config old.told.state
       → (why ≡ fault.Full) ⊎ (why ≡ fault.NoMemory) → (why ≡ fault.Full → IsTooMuch old.filled old.told.config old.told.state event)
@@ -132,17 +90,3 @@ module _ {D : Type 0} (old : Kept D) (event : Event) (why : GatewayFault) where
     where
       other : (which : GatewayFault) → why ≡ which → which ≢ fault.Full → which ≢ fault.NoMemory → ⊥
       other which is first second = elim either [ inl e ↦ first (sym is ∙ e) | inr e ↦ second (sym is ∙ e) ]
-
--- there is no memory for the text that it brings
-pub refuses_load : {D : Type 0} (old : Kept D) (moment : ℕ) (text : List ℕ) → old.fallen ≡ false → old.told.last < 2 ^ 64 - 1 → length old.told.held < 64
-    → Refuses old (record { moment = moment; what = Load text }) fault.NoMemory
-refuses_load old moment text stands left few = record {
-  reopen = (λ is. absurd cc, λ fallen. absurd (false≢true (sym stands ∙ fallen)));
-  numbers_out = (λ is. absurd cc, λ none. let last = none.1 in absurd (omega (arith, left, last)));
-  held_full = (λ is. absurd cc, λ all. let held = all.2 in absurd (omega (arith, few, held)));
-  full = λ is. absurd cc;
-  roomy = λ room is. absurd cc;
-  no_memory = λ none. absurd (none text refl);
-  causes = (λ is. absurd cc, λ is. absurd cc);
-  quiet = λ _ _ _ none. absurd (none text refl);
-}

@@ -3,6 +3,7 @@
 use Rattle.std.specs.Prelude.{ℕ, List, [], ◌∷◌}
 use Rattle.machine.specs.Fates.{answer_of}
 use Rattle.machine.specs.declared.event.Answer.{Answer}
+use Rattle.machine.specs.declared.event.Answer.TheVariants as answer
 use Rattle.gateway.specs.declared.given.Given.{Given}
 use Rattle.gateway.specs.declared.given.Given.TheVariants as given
 use Rattle.gateway.specs.declared.given.GivenInPlace.{GivenInPlace}
@@ -32,3 +33,11 @@ given_by (given_in_place.Held number fate) packet = given.Held number
 abbrev pub answer_given : GivenInPlace → List ℕ → ℕ × Answer
 answer_given (given_in_place.Now number fate) packet = (number, answer_of fate packet)
 answer_given (given_in_place.Held number fate) packet = (number, answer_of fate packet)
+
+-- the bytes of the packet that leaves, if one does
+abbrev pub packet_of : Answer → List ℕ
+packet_of (answer.Forward iface packet) = packet
+packet_of (answer.Dropped cause) = []
+packet_of answer.Loaded = []
+packet_of answer.Refused = []
+packet_of answer.Ticked = []

@@ -1,5 +1,5 @@
 -- The answers that are held, and the entries of their events. No public clause cites this module.
-use Rattle.std.specs.Prelude.{◌≡◌, ◌≢◌, ◌⊎◌, ◌↔◌, ◌<◌, ◌≤◌, ◌+◌, ℕ, zero, suc, List, [], ◌∷◌, ◌++◌, length, take, Option, Some, None}
+use Rattle.std.specs.Prelude.{◌≡◌, ◌↔◌, ◌<◌, ◌≤◌, ◌+◌, ℕ, zero, suc, List, [], ◌∷◌, ◌++◌, length, Option, Some, None}
 use Rattle.machine.specs.declared.event.Answer.{Answer}
 use Rattle.durable.specs.Coding.{Entry, AreEntries, body_bytes}
 use Rattle.durable.specs.Reading.{entry_at}
@@ -38,30 +38,20 @@ entries_at (suc n) bytes = behind_it (entries_at n) (entry_at bytes)
 abbrev pub entries_in : List ℕ → List Entry
 entries_in body = entries_at (length body) body
 
--- the answers in a list, and behind them those in the slots that are used
-abbrev pub held_in : List (ℕ × Answer) → List (ℕ × Answer) → ℕ → List (ℕ × Answer)
-held_in first slots used = first ++ take used slots
-
--- some entry stands, or there is room for some, or some answer is held
-abbrev pub IsUsed : List ℕ → ℕ → List (ℕ × Answer) → Type 0
-IsUsed body room held = (0 < length body + room) ⊎ (held ≢ [])
-
--- what they always keep: the buffer can spare the room for entries, 64 answers have a place, and the group fits its
--- file
-pub record IsPending (body : List ℕ) (spare capacity : ℕ) (held : List (ℕ × Answer))
-    (place room : ℕ) : Type 0 where
+-- the bytes that wait are entries, the buffer can spare the room for more, and the group fits its file
+pub record HasGroup (body : List ℕ) (spare place room : ℕ) : Type 0 where
   pub entries : List Entry
   pub coded : AreEntries entries
   pub are : body ≡ body_bytes entries
   pub has_room : room ≤ spare
-  pub has_places : IsUsed body room held → 64 ≤ capacity
   pub fits : 0 < length body + room → place + length body + room + 6 ≤ 67108864
-  pub few : length held ≤ 64
-  pub needed : held ≢ [] → body ≢ []
 
--- where an answer may come, the list and the slots together have places for 64; there are 64 slots at most
-pub record HasSlots (body : List ℕ) (room : ℕ) (first slots : List (ℕ × Answer))
-    (used : ℕ) : Type 0 where
+-- The first slots are used, and none if no entry waits. If one waits or may come, there are 64 slots, and as many places
+-- to hand their answers out.
+pub record HasSlots (body : List ℕ) (room : ℕ) (slots : List (ℕ × Answer)) (used : ℕ)
+    (handed : List (ℕ × Answer)) (places : ℕ) : Type 0 where
   pub within : used ≤ length slots
   pub most : length slots ≤ 64
-  pub enough : IsUsed body room (held_in first slots used) → 64 ≤ length first + length slots
+  pub quiet : body ≡ [] → used ≡ 0
+  pub enough : 0 < length body + room → (64 ≤ length slots) × (64 ≤ places)
+  pub none : handed ≡ []

@@ -3,14 +3,15 @@
 //!
 //! - `open`: `Store::open` reads the files, and `resume_core` has a core begin again from what they stood for.
 //! - `offer`: `Core::step_noted` does the step and has `Pending` note its entries; `give` answers at once, or holds.
-//! - `take_packet`: as `offer`, by `Core::take_packet` and `give_copy`, for a packet where it lies.
-//! - `take_event`: so for a load or a moment, by `Core::step_noted` and `give_copy`.
+//! - `take_event`: the same for a load or a moment (`take_whole`), whose answer is told in either case.
+//! - `take_packet`: so for a packet where it lies, by `Core::take_packet` and `give`.
 //! - `flush`: `Store::commit` syncs the group of `Pending`, and `Pending::release` gives what was held (`sync`).
 //! - `settle`: as `flush`, but what was held is let go: its caller has it already.
 //! - `compact`: `Store::compact` makes a file of what must survive (`lasting_sessions`), with no groups.
 //! - `run`: `running::take_all` does these calls for a list of events.
 ghost use Rattle.std.specs.Prelude.{◌≡◌, ◌≢◌, ◌↔◌, ◌⊎◌, ◌+◌, ◌-◌, ◌^◌, ◌<◌, ◌≤◌, ◌++◌, ◌∷◌, [], ℕ, List, IfOk, IfErr, IfNone, IfSome, OnOk, OnErr, OnSome, IsOk, IsErrOf, MatchResult, IsTrue, length, true, false};
 ghost use Rattle.packet.specs.Config.{is_config};
+ghost use Rattle.packet.specs.Laws.{AreBytes};
 ghost use Rattle.disk_model.specs.Disk.{Leaves, LeavesNow, LeavesOnly, Looks, Same, Called, Grew, HasCause};
 ghost use Rattle.durable.specs.Coding.{Entry, body_bytes};
 ghost use Rattle.durable.specs.Entering.{Durable, IsDurable};
@@ -22,7 +23,7 @@ ghost use Rattle.machine.specs.Sizes.{most_bytes};
 ghost use Rattle.machine.specs.Noted.{AreEntriesOf, HasEntry, IsResumed, lasting};
 ghost use Rattle.machine.specs.Sound.{IsSoundState};
 ghost use Rattle.machine.specs.declared.event.What.TheVariants.{Packet};
-ghost use Rattle.gateway.specs.Given.{IsNow};
+ghost use Rattle.gateway.specs.Given.{IsNow, answer_given, packet_of};
 ghost use Rattle.gateway.specs.Syncing.{Syncs, end_of};
 ghost use Rattle.gateway.specs.Told.{Took, TookAll, TookFirst};
 ghost use Rattle.gateway.specs.Kept.{GroupsEndAt, IsAtRest, IsRoomy, IsSafe, IsTooMuch};
@@ -31,14 +32,14 @@ ghost use Rattle.gateway.specs.Running.{BreaksOff, CarriesOn, SafeThrough, Stops
 ghost use Rattle.gateway.specs.Taking.{IsNoPacket, Refuses, TakesInPlace};
 
 use crate::fault::{why_not_compacted, why_refused};
-use crate::given::{fate_of, give, give_copy};
+use crate::given::{give, parts_of, with_answer};
 use crate::pending::{MOST_HELD, Pending};
 use crate::running::take_all;
 use crate::surviving::{lasting_sessions, resume_core};
 use crate::{GatewayFault, Given, GivenInPlace, OpenFault};
 use disk_model::Disk;
 use machine::laws::events_are_judged_once;
-use machine::{Answer, Bytes, Coming, Core, Event, Iface, MOST_AHEAD, NoMemory};
+use machine::{Answer, Bytes, Coming, Core, Event, Iface, MOST_AHEAD, NoMemory, What};
 use packet::Bounds;
 use sessions::Session;
 use snapshot::{CommitFault, Opened, Store};
@@ -369,17 +370,37 @@ impl<D: Disk + Drop> Gateway<D> {
             → (judged : Judged) → IsJudged self.old.told.config event judged
             → ¬ HasEntry self.old.told.config self.old.told.state judged → IsOk result }
     {
+        match self.take_whole(event) {
+            Ok((taken, answer)) => {
+                self.in_place = self.pending.is_quiet();
+                Ok(with_answer(taken, answer))
+            }
+            Err((event, fault)) => Err((event, fault)),
+        }
+    }
+
+    // Takes an event as `offer` does. Its answer comes whole, whether it is held or not.
+    fn take_whole(&mut self, event: Event) -> Result<(GivenInPlace, Answer), (Event, GatewayFault)>
+        ensures ok { IfOk result (λ r. TakesInPlace self.old self.new event r.0 (packet_of r.1)) }
+        ensures whole { IfOk result (λ r. (answer_given r.0 (packet_of r.1)).1 ≡ r.1) }
+        ensures bodiless { IsNoPacket event.what → IfOk result (λ r. packet_of r.1 ≡ []) }
+        ensures err { IfErr result (λ e. (e.0 ≡ event) × (self.new ≡ self.old)) }
+        ensures why { IfErr result (λ e. Refuses self.old event e.1) }
+        ensures beside { self.new
+            ≡ record self.old { told = self.new.told; filled = self.new.filled } }
+    {
         if let Some(fault) = self.why_none() {
             return Err((event, fault));
         }
         self.core.facts();
         events_are_judged_once();
+        bytes_of_event_fit(&event);
         match self.core.step_noted(event, &mut self.pending) {
             Ok(answer) => {
                 self.last += 1;
-                let given = give(&mut self.pending, self.last, answer);
-                self.in_place = self.pending.is_quiet();
-                Ok(given)
+                let (fate, packet) = parts_of(&answer);
+                let taken = give(&mut self.pending, self.last, fate, packet);
+                Ok((taken, answer))
             }
             Err((event, fault)) => Err((event, why_refused(fault))),
         }
@@ -447,7 +468,7 @@ impl<D: Disk + Drop> Gateway<D> {
         {
             Ok(fate) => {
                 self.last += 1;
-                Ok(give_copy(&mut self.pending, self.last, fate, packet))
+                Ok(give(&mut self.pending, self.last, fate, packet))
             }
             Err(fault) => Err(why_refused(fault)),
         }
@@ -466,18 +487,9 @@ impl<D: Disk + Drop> Gateway<D> {
         ensures beside { self.new
             ≡ record self.old { told = self.new.told; filled = self.new.filled } }
     {
-        if let Some(fault) = self.why_none() {
-            return Err((event, fault));
-        }
-        self.core.facts();
-        events_are_judged_once();
-        match self.core.step_noted(event, &mut self.pending) {
-            Ok(answer) => {
-                self.last += 1;
-                let fate = fate_of(answer);
-                Ok(give_copy(&mut self.pending, self.last, fate, &[]))
-            }
-            Err((event, fault)) => Err((event, why_refused(fault))),
+        match self.take_whole(event) {
+            Ok((taken, _)) => Ok(taken),
+            Err((event, fault)) => Err((event, fault)),
         }
     }
 
@@ -713,6 +725,20 @@ impl<D: Disk + Drop> Gateway<D> {
         }
     }
 }
+
+// The proof of `take_whole` needs the range of the bytes that an event brings.
+fn bytes_of_event_fit(event: &Event)
+    ensures { (iface : Iface) (packet : List ℕ) → event.now.what ≡ Packet iface packet
+        → AreBytes packet }
+{
+    if let What::Packet(_, packet) = &event.what {
+        bytes_fit(packet.as_slice());
+    }
+}
+
+fn bytes_fit(bytes: &[u8])
+    ensures { AreBytes bytes.now }
+{}
 
 // A number of this type has 64 bits.
 fn fits(number: u64)

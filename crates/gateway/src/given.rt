@@ -1,9 +1,7 @@
-//! What became of an event that was taken: its answer is handed out at once, or held (`give`, `give_copy`).
-ghost use Rattle.std.specs.Prelude.{◌≡◌, ◌≢◌, ◌<◌, ◌≤◌, ℕ, List, length};
-ghost use Rattle.packet.specs.declared.endpoint.Iface.{Iface};
+//! What became of an event that was taken: its answer is handed out at once, or held (`give`).
+ghost use Rattle.std.specs.Prelude.{◌≡◌, ◌<◌, ◌≤◌, length};
 ghost use Rattle.machine.specs.Fates.{answer_of};
-ghost use Rattle.machine.specs.declared.event.Answer.TheVariants.{Forward};
-ghost use Rattle.gateway.specs.Given.{answer_given, given_by};
+ghost use Rattle.gateway.specs.Given.{answer_given, given_by, packet_of};
 ghost use Rattle.gateway.specs.HeldAnswers.{Gives};
 
 use crate::pending::Pending;
@@ -27,26 +25,9 @@ pub enum GivenInPlace {
     Held(u64, Fate),
 }
 
-// Hands out an answer at once where no entry waits, and holds it otherwise.
-pub(crate) fn give(pending: &mut Pending, number: u64, answer: Answer) -> Given
-    requires few { length pending.old.held < 64 }
-    ensures { Gives pending.old pending.new result (number, answer) }
-{
-    if pending.is_quiet() {
-        return Given::Now(number, answer);
-    }
-    pending.hold(number, answer);
-    Given::Held(number)
-}
-
 // Says what an event comes to at once where no entry waits, and else holds its answer, with a copy of its packet.
 #[inline(always)]
-pub(crate) fn give_copy(
-    pending: &mut Pending,
-    number: u64,
-    fate: Fate,
-    packet: &[u8],
-) -> GivenInPlace
+pub(crate) fn give(pending: &mut Pending, number: u64, fate: Fate, packet: &[u8]) -> GivenInPlace
     requires few { length pending.old.held < 64 }
     requires short { length packet.now ≤ 65535 }
     ensures gives { Gives pending.old pending.new (given_by result packet.now)
@@ -54,23 +35,33 @@ pub(crate) fn give_copy(
     ensures answer { answer_given result packet.now ≡ (number, answer_of fate packet.now) }
 {
     if !pending.is_quiet() {
-        pending.hold_copy(number, fate, packet);
+        pending.hold(number, fate, packet);
         return GivenInPlace::Held(number, fate);
     }
     GivenInPlace::Now(number, fate)
 }
 
-// What an event came to that brought no packet.
-pub(crate) fn fate_of(answer: Answer) -> Fate
-    requires { (iface : Iface) (packet : List ℕ) → answer ≢ Forward iface packet }
-    ensures { (packet : List ℕ) → answer_of result packet ≡ answer }
+// What became of an event that was taken, with its answer.
+pub(crate) fn with_answer(taken: GivenInPlace, answer: Answer) -> Given
+    requires { (answer_given taken (packet_of answer)).1 ≡ answer }
+    ensures { result ≡ given_by taken (packet_of answer) }
+{
+    match taken {
+        GivenInPlace::Now(number, _) => Given::Now(number, answer),
+        GivenInPlace::Held(number, _) => Given::Held(number),
+    }
+}
+
+// What an event came to that was answered so, and the bytes that its packet has.
+pub(crate) fn parts_of(answer: &Answer) -> (Fate, &[u8])
+    ensures whole { answer_of result.0 result.1.now ≡ answer.now }
+    ensures packet { result.1.now ≡ packet_of answer.now }
 {
     match answer {
-        Answer::Dropped(cause) => Fate::Dropped(cause),
-        Answer::Loaded => Fate::Loaded,
-        Answer::Refused => Fate::Refused,
-        Answer::Ticked => Fate::Ticked,
-        // Only a packet leaves.
-        Answer::Forward(..) => unreachable!(),
+        Answer::Forward(iface, packet) => (Fate::Leaves(*iface), packet.as_slice()),
+        Answer::Dropped(cause) => (Fate::Dropped(*cause), &[]),
+        Answer::Loaded => (Fate::Loaded, &[]),
+        Answer::Refused => (Fate::Refused, &[]),
+        Answer::Ticked => (Fate::Ticked, &[]),
     }
 }

@@ -1,13 +1,10 @@
 //! The answers that are held, and the entries of their events.
 //!
 //! A step of the core asks for room (`reserve`) and then notes its entries (`note`), which `put` makes into the bytes
-//! of a group. `Gateway::offer` has the answer held behind them (`hold`), and a flush writes the `group` and lets all
-//! of it go (`release`).
-//!
-//! `Gateway::take_packet` has a copy of the packet held (`hold_copy`), in a slot that stands ready since `reserve`.
-//! A settlement doesn't want the answers, and their slots hold others. Where answers are handed out, or one comes
-//! that isn't copied, those in slots are made into such as the others (`move_out`).
-ghost use Rattle.std.specs.Prelude.{◌≡◌, ◌≢◌, ◌↔◌, ◌+◌, ◌*◌, ◌<◌, ◌≤◌, ◌^◌, ◌++◌, ◌∷◌, [], length, take, drop, IfOk, IfSome, IfNone, OnOk, IsTrue, true, vec_len, vec_capacity};
+//! of a group. An answer is held (`hold`) in a slot that stands ready since `reserve`, with a copy of its packet. A sync
+//! writes the `group` and lets all of it go (`release`): a flush takes the answers out of their slots (`move_out`), and
+//! after a settlement the slots hold others.
+ghost use Rattle.std.specs.Prelude.{◌≡◌, ◌≢◌, ◌↔◌, ◌+◌, ◌*◌, ◌<◌, ◌≤◌, ◌^◌, ◌++◌, ◌∷◌, [], length, take, drop, IfOk, IfSome, IfNone, OnOk, IsTrue, true, vec_capacity};
 ghost use Rattle.durable.specs.Coding.{IsEntry, AreEntries, entry_bytes, body_bytes};
 ghost use Rattle.durable.specs.Viewing.{view};
 ghost use Rattle.machine.specs.Fates.{answer_of};
@@ -29,11 +26,12 @@ const AROUND: u64 = 6;
 #[derive(Drop)]
 pub(crate) struct Pending {
     alloc: Global,
-    held: Vec<(u64, Answer)>,
-    /// Answers that are held behind these, and behind them slots for others.
+    /// The first of these hold the answers, and the others wait for more.
     slots: Vec<AnswerSlot>,
     /// How many of the slots hold an answer.
     used: usize,
+    /// No answer, but room for all that are handed out.
+    handed: Vec<(u64, Answer)>,
     group: Group,
     /// The place of the closed gate behind the groups of the active file, over which the group's own gate will stand.
     place: u64,
@@ -42,21 +40,21 @@ pub(crate) struct Pending {
 }
 
 impl Model for Pending {
-    ghost use Rattle.std.specs.Prelude.{vec_capacity};
-    ghost use Rattle.gateway.specs.HeldAnswers.{HeldAnswers, IsPending, HasSlots, entries_in, held_in};
+    ghost use Rattle.std.specs.Prelude.{take, vec_capacity};
+    ghost use Rattle.gateway.specs.HeldAnswers.{HasGroup, HasSlots, HeldAnswers, entries_in};
 
     ghost Value = { HeldAnswers };
 
     ghost view = { λ p. record {
-      held = held_in p.held.items p.slots.items p.used;
+      held = take p.used p.slots.items;
       entries = entries_in p.group.body;
       place = p.place;
       room = p.room;
     } };
 
-    ghost invariant = { λ p. IsPending p.group.body p.group.room (vec_capacity p.held)
-        (held_in p.held.items p.slots.items p.used) p.place p.room
-        × HasSlots p.group.body p.room p.held.items p.slots.items p.used };
+    ghost invariant = { λ p. HasGroup p.group.body p.group.room p.place p.room
+        × HasSlots p.group.body p.room p.slots.items p.used p.handed.items
+        (vec_capacity p.handed) };
 }
 
 impl Pending {
@@ -76,9 +74,9 @@ impl Pending {
         let group = Group::new(alloc)?;
         Ok(Pending {
             alloc,
-            held: Vec::new(alloc),
             slots: Vec::new(alloc),
             used: 0,
+            handed: Vec::new(alloc),
             group,
             place,
             room: 0,
@@ -92,7 +90,7 @@ impl Pending {
         ensures fits { self.now.held ≢ []
             → self.now.place + length (body_bytes self.now.entries) + 6 ≤ 67108864 }
     {
-        self.held.len() + self.used
+        self.used
     }
 
     /// Whether no entry waits. Then no answer is held; and between a gateway's calls none waits where none is held.
@@ -113,23 +111,9 @@ impl Pending {
         &self.group
     }
 
-    /// Holds an answer behind the others. Some entry waits, so there is room for it.
-    #[inline(always)]
-    pub(crate) fn hold(&mut self, number: u64, answer: Answer)
-        requires some { self.old.entries ≢ [] }
-        requires few { length self.old.held < 64 }
-        ensures held { self.new.held ≡ self.old.held ++ (number, answer) ∷ [] }
-        ensures entries { self.new.entries ≡ self.old.entries }
-        ensures place { self.new.place ≡ self.old.place }
-    {
-        move_out(&mut self.held, &mut self.slots, self.used);
-        self.used = 0;
-        push(&mut self.held, number, answer);
-    }
-
     /// Holds an answer behind the others, with a copy of its packet. Some entry waits, so there is a slot for it.
     #[inline(never)]
-    pub(crate) fn hold_copy(&mut self, number: u64, fate: Fate, packet: &[u8])
+    pub(crate) fn hold(&mut self, number: u64, fate: Fate, packet: &[u8])
         requires some { self.old.entries ≢ [] }
         requires few { length self.old.held < 64 }
         requires short { length packet.now ≤ 65535 }
@@ -150,14 +134,12 @@ impl Pending {
         self.room = 0;
         self.place = place;
         self.group.clear();
-        if wanted {
-            move_out(&mut self.held, &mut self.slots, self.used);
-            self.used = 0;
-            return std::mem::replace(&mut self.held, Vec::new(self.alloc));
+        let used = std::mem::replace(&mut self.used, 0);
+        if !wanted {
+            return Vec::new(self.alloc);
         }
-        self.held.clear();
-        self.used = 0;
-        Vec::new(self.alloc)
+        move_out(&mut self.slots, used, &mut self.handed);
+        std::mem::replace(&mut self.handed, Vec::new(self.alloc))
     }
 }
 
@@ -182,7 +164,7 @@ impl Notes for Pending {
         let Some(bytes) = room_for(self.place, self.group.len() as u64, ends as u64, others) else {
             return Err(StepFault::Full);
         };
-        if make_places(&mut self.held).is_err()
+        if make_places(&mut self.handed).is_err()
             || make_slots(self.alloc, &mut self.slots).is_err()
             || self.group.reserve(bytes as usize).is_err()
         {
@@ -222,24 +204,16 @@ fn room_for(place: u64, waiting: u64, ends: u64, others: u64) -> Option<u64>
     Some(bytes)
 }
 
-// Makes room for all answers that may be held.
-fn make_places(held: &mut Vec<(u64, Answer)>) -> Result<(), AllocError>
-    ensures items { held.new.items ≡ held.old.items }
-    ensures ok { OnOk result (64 ≤ vec_capacity held.new) }
-    ensures capacity { vec_capacity held.old ≤ vec_capacity held.new }
+// Makes room for all answers that may be handed out.
+fn make_places(handed: &mut Vec<(u64, Answer)>) -> Result<(), AllocError>
+    ensures items { handed.new.items ≡ handed.old.items }
+    ensures ok { OnOk result (64 ≤ vec_capacity handed.new) }
+    ensures capacity { vec_capacity handed.old ≤ vec_capacity handed.new }
 {
-    if held.capacity() >= MOST_HELD {
+    if handed.capacity() >= MOST_HELD {
         return Ok(());
     }
-    held.reserve(MOST_HELD)
-}
-
-fn push(held: &mut Vec<(u64, Answer)>, number: u64, answer: Answer)
-    requires { vec_len held.old + 1 ≤ vec_capacity held.old }
-    ensures items { held.new.items ≡ held.old.items ++ (number, answer) ∷ [] }
-    ensures capacity { vec_capacity held.old ≤ vec_capacity held.new }
-{
-    let _ = held.push((number, answer));
+    handed.reserve(MOST_HELD)
 }
 
 // Makes slots for all answers that may be held, behind those that there are.
@@ -273,17 +247,16 @@ fn make_more_slots(alloc: Global, slots: &mut Vec<AnswerSlot>) -> Result<(), All
     Ok(())
 }
 
-// Makes the answers in the slots that are used into such as the others, and puts them behind these.
-fn move_out(held: &mut Vec<(u64, Answer)>, slots: &mut Vec<AnswerSlot>, used: usize)
+// Takes the answers out of the slots that are used, for which there is room.
+fn move_out(slots: &mut Vec<AnswerSlot>, used: usize, handed: &mut Vec<(u64, Answer)>)
     requires within { used ≤ length slots.old.items }
-    requires room { length held.old.items + used ≤ vec_capacity held.old }
-    ensures held { held.new.items ≡ held.old.items ++ take used slots.old.items }
+    requires none { handed.old.items ≡ [] }
+    requires room { used ≤ vec_capacity handed.old }
+    ensures handed { handed.new.items ≡ take used slots.old.items }
     ensures slots { slots.new.items ≡ drop used slots.old.items }
-    ensures capacity { vec_capacity held.old ≤ vec_capacity held.new }
 {
     for _ in 0..used {
-        let (number, answer) = slots.remove(0).into_answer();
-        push(held, number, answer);
+        let _ = handed.push(slots.remove(0).into_answer());
     }
 }
 

@@ -1,14 +1,12 @@
-use Rattle.std.proofs.Common.{◌+◌, ◌++◌, ◌∷◌, ◌∙◌, [], refl, sym, subst, ap}
+use Rattle.std.proofs.Common.{◌+◌, ◌∙◌, refl, sym, ap}
 use Rattle.std.proofs.lemmas.Bool.{false≢true}
-use Rattle.packet.specs.Config.{Config}
 use Rattle.machine.specs.Besides.{Besides}
 use Rattle.machine.specs.Fates.{answer_of}
 use Rattle.machine.specs.declared.event.Event.{Event}
 use Rattle.machine.specs.declared.event.What.TheVariants.{Packet}
-use Rattle.gateway.specs.Kept.{LeadsToPresent}
 use Rattle.gateway.specs.Given.{given_by}
 use Rattle.gateway.proofs.Offering.{takes_in, held_before}
-use Rattle.gateway.proofs.Outcomes.{refuses_any, refuses_step, takes_step}
+use Rattle.gateway.proofs.Outcomes.{refuses_step, takes_step}
 use Rattle.gateway.proofs.calls.Gateway.take_packet.Goals as goal
 
 pub invariant_of-self : goal.invariant_of-self
@@ -17,17 +15,16 @@ invariant_of-self g c =
     let event : Event = record { moment = c.args.moment; what = Packet c.args.iface c.args.packet.now } in
     let done = c.in-Ok.ensures.ok in
     let noted = done.3 tt in
-    let gives = c.give_copy.ensures.gives in
+    let gives = c.give.ensures.gives in
     let answer = answer_of c.in-Ok.fate c.take_packet.new.packet in (
       c.self.invariant.0 ∙ sym c.take_packet.ensures.config,
       gives.none,
       λ stands. gives.place ∙ ap (λ (b : Besides). b.place) c.take_packet.ensures.beside ∙ c.self.invariant.2 stands,
-      λ stands honest. subst (λ (k : Config). LeadsToPresent k (g.D.Disk.seen own.store.disk) c.give_copy.new.pending.entries c.take_packet.new.self.state) (sym c.take_packet.ensures.config)
-          (takes_in own.core.config (g.D.Disk.seen own.store.disk) own.pending.entries c.give_copy.new.pending.entries noted.0 own.core.state
-          c.take_packet.new.self.state event done.0 answer c.facts.ensures.config c.facts.ensures.sound
-          (c.self.invariant.3 stands honest) done.1 done.2 noted.1 (gives.entries ∙ noted.2)),
+      λ stands honest. takes_in own.core.config c.take_packet.new.self.config (g.D.Disk.seen own.store.disk) own.pending.entries c.give.new.pending.entries noted.0 own.core.state
+          c.take_packet.new.self.state event done.0 answer c.take_packet.ensures.config c.facts.ensures.config c.facts.ensures.sound
+          (c.self.invariant.3 stands honest) done.1 done.2 noted.1 (gives.entries ∙ noted.2),
       λ held. c.self.invariant.4 (sym (ap (λ (b : Besides). b.held) c.take_packet.ensures.beside)
-          ∙ held_before (given_by c.give_copy.result c.take_packet.new.packet) c.take_packet.new.notes.held c.give_copy.new.pending.held (own.last + 1, answer) gives.order held),
+          ∙ held_before (given_by c.give.result c.take_packet.new.packet) c.take_packet.new.notes.held c.give.new.pending.held (own.last + 1, answer) gives.order held),
     )
 
 pub returns-in-Ok-clause-ok : goal.returns-in-Ok-clause-ok
@@ -38,21 +35,12 @@ returns-in-Ok-clause-ok g c =
     let event : Event = record { moment = c.args.moment; what = Packet c.args.iface c.args.packet.now } in
     let done = c.in-Ok.ensures.ok in
     let noted = done.3 tt in
-    let gives = c.give_copy.ensures.gives in
     let answer = answer_of c.in-Ok.fate c.take_packet.new.packet in
     let beside = c.take_packet.ensures.beside in
-    record {
-      takes = takes_step _ _ event done.0 noted.0 answer _ own.pending c.take_packet.new.notes c.give_copy.new.pending c.facts.ensures.config c.facts.ensures.sound
-          done.1 done.2 noted.1 noted.2 (ap (λ (b : Besides). b.place) beside) (ap (λ (b : Besides). b.held) beside) gives c.self.invariant.1
-          (λ other is. c.events_are_judged_once.ensures own.core.config event done.0 other done.1 is) refl refl refl refl c.take_packet.ensures.config refl
-          none.0 none.1 none.2;
-      answer = gives.order ∙ ap (λ held. held ++ (own.last + 1, answer) ∷ []) (ap (λ (b : Besides). b.held) beside) ∙ ap (λ one. own.pending.held ++ one ∷ []) (sym c.give_copy.ensures.answer);
-    })
-
-pub returns-in-Some-clause-why : goal.returns-in-Some-clause-why
-returns-in-Some-clause-why g c =
-    let e = c.in-Some.ensures in
-    refuses_any _ _ c.in-Some.fault e.reopen e.numbers_out e.held_full e.causes
+    takes_step _ _ event done.0 noted.0 answer c.give.result _ own.pending c.take_packet.new.notes c.give.new.pending c.facts.ensures.config c.facts.ensures.sound
+    done.1 done.2 noted.1 noted.2 (ap (λ (b : Besides). b.place) beside) (ap (λ (b : Besides). b.held) beside) c.give.ensures.gives c.give.ensures.answer c.self.invariant.1
+    (λ other is. c.events_are_judged_once.ensures own.core.config event done.0 other done.1 is) refl refl refl refl c.take_packet.ensures.config refl
+    none.0 none.1 none.2)
 
 pub returns-in-Err-clause-why : goal.returns-in-Err-clause-why
 returns-in-Err-clause-why g c =
