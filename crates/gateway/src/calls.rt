@@ -249,6 +249,13 @@ impl<D: Disk + Drop> Gateway<D> {
         fits(self.last);
     }
 
+    /// The number of the last event that was taken; 0 before any was.
+    pub fn last(&self) -> u64
+        ensures { result ≡ self.now.told.last }
+    {
+        self.last
+    }
+
     /// How many answers are held, at most 64.
     pub fn held(&self) -> usize
         ensures value { result ≡ length self.now.told.held }

@@ -1,8 +1,9 @@
 //! One more event of a run, taken in its caller's bytes. Whoever calls these has each held answer already, as it was
 //! told; so what is held is settled, and nothing is handed out.
 //!
-//! - `take_packet`: `Gateway::take_packet` takes the packet. Where it is refused for want of room, `retake_packet`
-//!   settles the held answers (`settle_held_full`), or settles and compacts (`make_room`), and it is taken again
+//! - `take_packet`: `Gateway::take_packet` takes the packet. If it is refused for want of room, `retake_packet` settles
+//!   the held answers (`settle_held_full`), or settles and compacts (`make_room`), and takes it again
+//!   (`take_packet_behind_settlement`)
 //! - `take_load`, `take_moment`: so does `take_event` an event without a packet, by `Gateway::take_event`
 ghost use Rattle.std.specs.Prelude.{◌≡◌, ◌≢◌, ◌⊎◌, ◌-◌, ◌^◌, ◌<◌, ◌≤◌, ◌∷◌, [], ℕ, List, false, length};
 ghost use Rattle.std.specs.Prelude.{IfErr, IfOk, OnErr, OnOk, true};
@@ -59,17 +60,13 @@ pub fn take_packet<D: Disk + Drop>(
 {
     match offer_packet(gateway, moment, iface, packet) {
         Ok(taken) => Ok(taken),
-        // Taken apart, so that a packet that is taken at once needs no place in memory for this.
-        Err(fault) => match retake_packet(fault, gateway, moment, iface, packet) {
-            Ok(taken) => Ok(taken),
-            Err(fault) => Err(fault),
-        },
+        Err(fault) => retake_packet(fault, gateway, moment, iface, packet),
     }
 }
 
-// Takes a packet that was refused with this fault: where there was no room for its answer or its entries, behind a
-// settlement, and behind a compaction where there still is none for its entries.
-#[inline(never)]
+// Takes a packet that was refused with this fault, if that was for want of room for its answer or its entries. Compiled
+// into its caller, so that a packet that is taken at once needs no place in memory for what this gives.
+#[inline(always)]
 fn retake_packet<D: Disk + Drop>(
     fault: GatewayFault,
     gateway: &mut Gateway<D>,
@@ -105,16 +102,7 @@ fn retake_packet<D: Disk + Drop>(
     if !lacks_room(fault) {
         return Err(fault);
     }
-    settle_held_full(gateway)?;
-    match offer_packet(gateway, moment, iface, packet) {
-        Ok(taken) => Ok(taken),
-        Err(fault) => {
-            if is_full(fault) {
-                return take_packet_behind_compaction(gateway, moment, iface, packet);
-            }
-            Err(fault)
-        }
-    }
+    take_packet_behind_settlement(gateway, moment, iface, packet)
 }
 
 // Whether there was no room for an answer or for entries.
@@ -125,9 +113,10 @@ fn lacks_room(fault: GatewayFault) -> bool
     matches!(fault, GatewayFault::Full | GatewayFault::HeldFull)
 }
 
-// Settles and compacts; then there is room for the packet, and it is taken.
+// Settles if 64 answers are held, and takes the packet. If it is refused as `Full`, settles and compacts, and takes it
+// again: then there is room for it.
 #[inline(never)]
-fn take_packet_behind_compaction<D: Disk + Drop>(
+fn take_packet_behind_settlement<D: Disk + Drop>(
     gateway: &mut Gateway<D>,
     moment: u64,
     iface: Iface,
@@ -152,6 +141,15 @@ fn take_packet_behind_compaction<D: Disk + Drop>(
     ensures in_place { gateway.new.in_place ≡ true }
     ensures length { length packet.new ≡ length packet.old }
 {
+    settle_held_full(gateway)?;
+    match offer_packet(gateway, moment, iface, packet) {
+        Ok(taken) => return Ok(taken),
+        Err(fault) => {
+            if !is_full(fault) {
+                return Err(fault);
+            }
+        }
+    }
     make_room(gateway)?;
     offer_packet(gateway, moment, iface, packet)
 }
