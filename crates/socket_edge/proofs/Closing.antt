@@ -63,15 +63,15 @@ front_none events front back more e =
 
 module _ {D : Type 0} (honest : D → Type 0) (moment : D → ℕ) (left : D → ℕ → Files → Type 0) (failed : D → ℕ) (start now : Kept D) where
   -- all answers were sent, so that bytes went at each turn
-  pub closed-turns : (e : EdgeFault) (bytes rest : List ℕ) (count : ℕ) (out : List (ℕ × Answer)) (turns : List Turn) → Closed honest moment left failed (Err e) bytes rest count start now out
+  pub closed-turns : (e : EdgeFault) (bytes rest : List ℕ) (out : List (ℕ × Answer)) (turns : List Turn) → Closed honest moment left failed (Err e) bytes rest start now out
       → AllPass turns → LastTurn e turns
-  closed-turns BadKind bytes rest count out turns k p = p
-  closed-turns BadInterface bytes rest count out turns k p = p
-  closed-turns TooLong bytes rest count out turns k p = p
-  closed-turns Truncated bytes rest count out turns k p = absurd k
-  closed-turns Input bytes rest count out turns k p = absurd k
-  closed-turns Output bytes rest count out turns k p = absurd k
-  closed-turns (Gateway why) bytes rest count out turns k p = p
+  closed-turns BadKind bytes rest out turns k p = p
+  closed-turns BadInterface bytes rest out turns k p = p
+  closed-turns TooLong bytes rest out turns k p = p
+  closed-turns Truncated bytes rest out turns k p = absurd k
+  closed-turns Input bytes rest out turns k p = absurd k
+  closed-turns Output bytes rest out turns k p = absurd k
+  closed-turns (Gateway why) bytes rest out turns k p = p
 
 module _ {D : Type 0} (honest : D → Type 0) (moment : D → ℕ) (left : D → ℕ → Files → Type 0) (seen : D → Files) (failed : D → ℕ)
     (reads : (disk : D) → honest disk → left disk (moment disk) (seen disk))
@@ -102,17 +102,17 @@ module _ {D : Type 0} (honest : D → Type 0) (moment : D → ℕ) (left : D →
   }
 
   -- what is held is handed out
-  pub closes : (s : Halt) (mid now : Kept D) (bytes rest : List ℕ) (count : ℕ) (b c : List (ℕ × Answer)) → Up start [] [] → Offered honest moment left failed s bytes rest count start mid [] b
-      → CarriesOn honest moment left failed mid now [] b c → mid.fallen ≡ false → now.told.held ≡ [] → now.generation ≡ mid.generation → Closed honest moment left failed (end_of s) bytes rest count start now c
-  closes halt.Cut mid now bytes rest count b c begun o on up none same =
-      (o.0, o.1, o.2, o.3, record { stands = carry mid now o.0 b c on (o.4 start [] begun); none = none })
-  closes (halt.Bad header.BadKind) mid now bytes rest count b c begun o on up none same =
+  pub closes : (s : Halt) (mid now : Kept D) (bytes rest : List ℕ) (b c : List (ℕ × Answer)) → Up start [] [] → Offered honest moment left failed s bytes rest start mid [] b
+      → CarriesOn honest moment left failed mid now [] b c → mid.fallen ≡ false → now.told.held ≡ [] → now.generation ≡ mid.generation → Closed honest moment left failed (end_of s) bytes rest start now c
+  closes halt.Cut mid now bytes rest b c begun o on up none same =
+      (o.0, o.1, o.2, record { stands = carry mid now o.0 b c on (o.3 start [] begun); none = none })
+  closes (halt.Bad header.BadKind) mid now bytes rest b c begun o on up none same =
       record { events = o.0; reads = o.1; bad = o.2; settled = record { stands = carry mid now o.0 b c on (o.3 start [] begun); none = none } }
-  closes (halt.Bad header.BadInterface) mid now bytes rest count b c begun o on up none same =
+  closes (halt.Bad header.BadInterface) mid now bytes rest b c begun o on up none same =
       record { events = o.0; reads = o.1; bad = o.2; settled = record { stands = carry mid now o.0 b c on (o.3 start [] begun); none = none } }
-  closes (halt.Bad header.TooLong) mid now bytes rest count b c begun o on up none same =
+  closes (halt.Bad header.TooLong) mid now bytes rest b c begun o on up none same =
       record { events = o.0; reads = o.1; bad = o.2; settled = record { stands = carry mid now o.0 b c on (o.3 start [] begun); none = none } }
-  closes (halt.Refused why) mid now bytes rest count b c begun o on up none same =
+  closes (halt.Refused why) mid now bytes rest b c begun o on up none same =
       let off = o.3 start [] begun in
       let stops = off.3 in
       let other = no-device mid off.0 b why stops up in
@@ -143,22 +143,22 @@ module _ {D : Type 0} (honest : D → Type 0) (moment : D → ℕ) (left : D →
       }
 
   -- handing out has failed
-  pub fails : (s : Halt) (mid now : Kept D) (bytes rest : List ℕ) (count : ℕ) (b c : List (ℕ × Answer)) (why : GatewayFault) → Up start [] [] → Offered honest moment left failed s bytes rest count start mid [] b
+  pub fails : (s : Halt) (mid now : Kept D) (bytes rest : List ℕ) (b c : List (ℕ × Answer)) (why : GatewayFault) → Up start [] [] → Offered honest moment left failed s bytes rest start mid [] b
       → BreaksOff honest moment left failed mid now [] b c why → mid.fallen ≡ false → why ≡ fault.Device → GatewayRefuses honest moment left failed why bytes start now c
-  fails halt.Cut mid now bytes rest count b c why begun o breaks up device =
-      fails-behind mid now bytes rest o.0 [] o.0 b c why (all_of o.0 o.0 refl) (events_then bytes rest o.0 o.1) (o.4 start [] begun) breaks (λ held. device)
-  fails (halt.Bad h) mid now bytes rest count b c why begun o breaks up device =
+  fails halt.Cut mid now bytes rest b c why begun o breaks up device =
       fails-behind mid now bytes rest o.0 [] o.0 b c why (all_of o.0 o.0 refl) (events_then bytes rest o.0 o.1) (o.3 start [] begun) breaks (λ held. device)
-  fails (halt.Refused first) mid now bytes rest count b c why begun o breaks up device =
+  fails (halt.Bad h) mid now bytes rest b c why begun o breaks up device =
+      fails-behind mid now bytes rest o.0 [] o.0 b c why (all_of o.0 o.0 refl) (events_then bytes rest o.0 o.1) (o.3 start [] begun) breaks (λ held. device)
+  fails (halt.Refused first) mid now bytes rest b c why begun o breaks up device =
       let off = o.3 start [] begun in
       fails-behind mid now bytes o.1 o.0 off.1 off.0 b c why off.2 (events_then bytes o.1 o.0 o.2) (off.3.stays (no-device mid off.0 b first off.3 up)) breaks (λ held. device)
 
   -- a call of the disk has failed before
-  pub fallen : (s : Halt) (mid : Kept D) (bytes rest : List ℕ) (count : ℕ) (b : List (ℕ × Answer)) → Up start [] [] → Offered honest moment left failed s bytes rest count start mid [] b
-      → mid.fallen ≡ true → Closed honest moment left failed (end_of s) bytes rest count start mid b
-  fallen halt.Cut mid bytes rest count b begun o down = absurd (true-false mid.fallen down (o.4 start [] begun).stands)
-  fallen (halt.Bad h) mid bytes rest count b begun o down = absurd (true-false mid.fallen down (o.3 start [] begun).stands)
-  fallen (halt.Refused why) mid bytes rest count b begun o down =
+  pub fallen : (s : Halt) (mid : Kept D) (bytes rest : List ℕ) (b : List (ℕ × Answer)) → Up start [] [] → Offered honest moment left failed s bytes rest start mid [] b
+      → mid.fallen ≡ true → Closed honest moment left failed (end_of s) bytes rest start mid b
+  fallen halt.Cut mid bytes rest b begun o down = absurd (true-false mid.fallen down (o.3 start [] begun).stands)
+  fallen (halt.Bad h) mid bytes rest b begun o down = absurd (true-false mid.fallen down (o.3 start [] begun).stands)
+  fallen (halt.Refused why) mid bytes rest b begun o down =
       let off = o.3 start [] begun in
       record {
         front = off.0;
@@ -192,17 +192,17 @@ module _ {D : Type 0} (honest : D → Type 0) (moment : D → ℕ) (left : D →
       )
 
   -- the first of the events that the bytes hold were taken
-  came : (r : Result (Unit {0}) EdgeFault) (now : Kept D) (bytes rest : List ℕ) (count : ℕ) (out : List (ℕ × Answer)) → Closed honest moment left failed r bytes rest count start now out
+  came : (r : Result (Unit {0}) EdgeFault) (now : Kept D) (bytes rest : List ℕ) (out : List (ℕ × Answer)) → Closed honest moment left failed r bytes rest start now out
       → (front back : List Event) × (events_in bytes ≡ front ++ back) × Ends honest moment left failed start now front out × (start.told.held ≡ [] → now.fallen ≡ false → now.told.held ≡ [])
-  came (Ok done) now bytes rest count out k =
-      (k.0, [], all_of k.0 (events_in bytes) (events_cut bytes rest k.0 k.1 k.2), ended honest moment left seen failed reads earlier start now k.0 out k.4.stands, λ held up. k.4.none)
-  came (Err BadKind) now bytes rest count out k = bad-came header.BadKind now bytes rest out k
-  came (Err BadInterface) now bytes rest count out k = bad-came header.BadInterface now bytes rest out k
-  came (Err TooLong) now bytes rest count out k = bad-came header.TooLong now bytes rest out k
-  came (Err Truncated) now bytes rest count out k = absurd k
-  came (Err Input) now bytes rest count out k = absurd k
-  came (Err Output) now bytes rest count out k = absurd k
-  came (Err (Gateway why)) now bytes rest count out k = (k.front, k.back, k.split, k.ends, k.none)
+  came (Ok done) now bytes rest out k =
+      (k.0, [], all_of k.0 (events_in bytes) (events_cut bytes rest k.0 k.1 k.2), ended honest moment left seen failed reads earlier start now k.0 out k.3.stands, λ held up. k.3.none)
+  came (Err BadKind) now bytes rest out k = bad-came header.BadKind now bytes rest out k
+  came (Err BadInterface) now bytes rest out k = bad-came header.BadInterface now bytes rest out k
+  came (Err TooLong) now bytes rest out k = bad-came header.TooLong now bytes rest out k
+  came (Err Truncated) now bytes rest out k = absurd k
+  came (Err Input) now bytes rest out k = absurd k
+  came (Err Output) now bytes rest out k = absurd k
+  came (Err (Gateway why)) now bytes rest out k = (k.front, k.back, k.split, k.ends, k.none)
 
   -- the gateway has fallen by a failed call, or none has failed
   stood-falls : (now : Kept D) (events : List Event) (out : List (ℕ × Answer)) → Up now events out → FallsByAFailure failed start now
@@ -212,48 +212,48 @@ module _ {D : Type 0} (honest : D → Type 0) (moment : D → ℕ) (left : D →
     by_one = omega (arith, s.no_failure);
   }
 
-  falls : (r : Result (Unit {0}) EdgeFault) (now : Kept D) (bytes rest : List ℕ) (count : ℕ) (out : List (ℕ × Answer)) → Closed honest moment left failed r bytes rest count start now out
+  falls : (r : Result (Unit {0}) EdgeFault) (now : Kept D) (bytes rest : List ℕ) (out : List (ℕ × Answer)) → Closed honest moment left failed r bytes rest start now out
       → FallsByAFailure failed start now
-  falls (Ok done) now bytes rest count out k = stood-falls now k.0 out k.4.stands
-  falls (Err BadKind) now bytes rest count out k = stood-falls now k.events out k.settled.stands
-  falls (Err BadInterface) now bytes rest count out k = stood-falls now k.events out k.settled.stands
-  falls (Err TooLong) now bytes rest count out k = stood-falls now k.events out k.settled.stands
-  falls (Err Truncated) now bytes rest count out k = absurd k
-  falls (Err Input) now bytes rest count out k = absurd k
-  falls (Err Output) now bytes rest count out k = absurd k
-  falls (Err (Gateway why)) now bytes rest count out k = record {
+  falls (Ok done) now bytes rest out k = stood-falls now k.0 out k.3.stands
+  falls (Err BadKind) now bytes rest out k = stood-falls now k.events out k.settled.stands
+  falls (Err BadInterface) now bytes rest out k = stood-falls now k.events out k.settled.stands
+  falls (Err TooLong) now bytes rest out k = stood-falls now k.events out k.settled.stands
+  falls (Err Truncated) now bytes rest out k = absurd k
+  falls (Err Input) now bytes rest out k = absurd k
+  falls (Err Output) now bytes rest out k = absurd k
+  falls (Err (Gateway why)) now bytes rest out k = record {
     no_failure = k.no_failure;
     device = λ down. k.is_why.device (k.is_why.fell.1 down);
     by_one = k.is_why.by_one;
   }
 
   -- a beginning of the frames was sent
-  pub sent-some : (r : Result (Unit {0}) EdgeFault) (now : Kept D) (bytes rest : List ℕ) (count : ℕ) (out : List (ℕ × Answer)) (sent lost : List ℕ) → Closed honest moment left failed r bytes rest count start now out
+  pub sent-some : (r : Result (Unit {0}) EdgeFault) (now : Kept D) (bytes rest : List ℕ) (out : List (ℕ × Answer)) (sent lost : List ℕ) → Closed honest moment left failed r bytes rest start now out
       → sent ++ lost ≡ flat_map frame out → (left_over : List ℕ) (others : List (ℕ × Answer)) → SettledAndSent honest moment left failed (Err Output) start now bytes left_over others sent
-  sent-some r now bytes rest count out sent lost k begins left_over others =
-      let is = came r now bytes rest count out k in (
+  sent-some r now bytes rest out sent lost k begins left_over others =
+      let is = came r now bytes rest out k in (
         BeginsFrames-told start.told now.told (events_in bytes) is.0 is.1 out sent lost is.2 is.3.ran.took begins,
         fares-if honest moment left failed start now (events_in bytes) is.0 is.1 out sent lost is.3 is.2 begins is.4,
-        falls r now bytes rest count out k,
+        falls r now bytes rest out k,
       )
 
   -- all of them were sent
-  fares-all : (r : Result (Unit {0}) EdgeFault) (now : Kept D) (bytes rest : List ℕ) (count : ℕ) (out : List (ℕ × Answer)) → Closed honest moment left failed r bytes rest count start now out
+  fares-all : (r : Result (Unit {0}) EdgeFault) (now : Kept D) (bytes rest : List ℕ) (out : List (ℕ × Answer)) → Closed honest moment left failed r bytes rest start now out
       → Fares honest moment left start now (events_in bytes) (flat_map frame out)
-  fares-all r now bytes rest count out k =
-      let is = came r now bytes rest count out k in
+  fares-all r now bytes rest out k =
+      let is = came r now bytes rest out k in
       fares-if honest moment left failed start now (events_in bytes) is.0 is.1 out (flat_map frame out) [] is.3 is.2 (append-nil (flat_map frame out)) is.4
 
-  pub sent-bad : (e : EdgeFault) (now : Kept D) (bytes rest : List ℕ) (count : ℕ) (out : List (ℕ × Answer)) → Closed honest moment left failed (Err e) bytes rest count start now out
+  pub sent-bad : (e : EdgeFault) (now : Kept D) (bytes rest : List ℕ) (out : List (ℕ × Answer)) → Closed honest moment left failed (Err e) bytes rest start now out
       → (left_over : List ℕ) (others : List (ℕ × Answer)) → SettledAndSent honest moment left failed (Err e) start now bytes left_over others (flat_map frame out)
-  sent-bad BadKind now bytes rest count out k left_over others = (bad-answered header.BadKind now bytes rest out k, fares-all (Err BadKind) now bytes rest count out k, (k.settled.stands.stands, k.settled.stands.no_failure))
-  sent-bad BadInterface now bytes rest count out k left_over others = (bad-answered header.BadInterface now bytes rest out k, fares-all (Err BadInterface) now bytes rest count out k, (k.settled.stands.stands, k.settled.stands.no_failure))
-  sent-bad TooLong now bytes rest count out k left_over others = (bad-answered header.TooLong now bytes rest out k, fares-all (Err TooLong) now bytes rest count out k, (k.settled.stands.stands, k.settled.stands.no_failure))
-  sent-bad Truncated now bytes rest count out k left_over others = absurd k
-  sent-bad Input now bytes rest count out k left_over others = absurd k
-  sent-bad Output now bytes rest count out k left_over others = absurd k
-  sent-bad (Gateway why) now bytes rest count out k left_over others =
-      (AnsweredFirst-told start.told now.told (events_in bytes) k.front k.back out k.split k.ends.ran.took, fares-all (Err (Gateway why)) now bytes rest count out k, (k.is_why, k.no_failure))
+  sent-bad BadKind now bytes rest out k left_over others = (bad-answered header.BadKind now bytes rest out k, fares-all (Err BadKind) now bytes rest out k, (k.settled.stands.stands, k.settled.stands.no_failure))
+  sent-bad BadInterface now bytes rest out k left_over others = (bad-answered header.BadInterface now bytes rest out k, fares-all (Err BadInterface) now bytes rest out k, (k.settled.stands.stands, k.settled.stands.no_failure))
+  sent-bad TooLong now bytes rest out k left_over others = (bad-answered header.TooLong now bytes rest out k, fares-all (Err TooLong) now bytes rest out k, (k.settled.stands.stands, k.settled.stands.no_failure))
+  sent-bad Truncated now bytes rest out k left_over others = absurd k
+  sent-bad Input now bytes rest out k left_over others = absurd k
+  sent-bad Output now bytes rest out k left_over others = absurd k
+  sent-bad (Gateway why) now bytes rest out k left_over others =
+      (AnsweredFirst-told start.told now.told (events_in bytes) k.front k.back out k.split k.ends.ran.took, fares-all (Err (Gateway why)) now bytes rest out k, (k.is_why, k.no_failure))
 
   -- ---- the file is compacted
 

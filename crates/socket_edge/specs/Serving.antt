@@ -128,15 +128,15 @@ module _ {D : Type 0} (honest : D → Type 0) (moment : D → ℕ) (left : D →
     (failed : D → ℕ) where
   -- What all whole frames at the front came to. Refused: the bytes read as these events and then `later`, and the first
   -- of the events were taken.
-  abbrev pub Offered : Halt → List ℕ → List ℕ → ℕ → Kept D → Kept D → List (ℕ × Answer)
+  abbrev pub Offered : Halt → List ℕ → List ℕ → Kept D → Kept D → List (ℕ × Answer)
       → List (ℕ × Answer) → Type 0
-  Offered halt.Cut bytes rest count old new before out =
-      (events : List Event) × Reads bytes events rest × (next rest ≡ Cut) × (count ≡ length events)
+  Offered halt.Cut bytes rest old new before out =
+      (events : List Event) × Reads bytes events rest × (next rest ≡ Cut)
       × CarriesOn honest moment left failed old new events before out
-  Offered (halt.Bad fault) bytes rest count old new before out =
+  Offered (halt.Bad fault) bytes rest old new before out =
       (events : List Event) × Reads bytes events rest × (next rest ≡ Bad fault)
       × CarriesOn honest moment left failed old new events before out
-  Offered (halt.Refused fault) bytes rest count old new before out =
+  Offered (halt.Refused fault) bytes rest old new before out =
       (events : List Event) × (later : List ℕ) × Reads bytes events later
       × BreaksOff honest moment left failed old new events before out fault
 
@@ -166,21 +166,21 @@ module _ {D : Type 0} (honest : D → Type 0) (moment : D → ℕ) (left : D →
     pub none : start.told.held ≡ [] → now.fallen ≡ false → now.told.held ≡ []
 
   -- the frames at the front were settled, or why not
-  abbrev pub Closed : Result (Unit {0}) EdgeFault → List ℕ → List ℕ → ℕ → Kept D → Kept D
+  abbrev pub Closed : Result (Unit {0}) EdgeFault → List ℕ → List ℕ → Kept D → Kept D
       → List (ℕ × Answer) → Type 0
-  Closed (Ok done) bytes rest count start now out =
-      (events : List Event) × Reads bytes events rest × (next rest ≡ Cut) × (count ≡ length events)
+  Closed (Ok done) bytes rest start now out =
+      (events : List Event) × Reads bytes events rest × (next rest ≡ Cut)
       × IsSettled start now events out
-  Closed (Err BadKind) bytes rest count start now out =
+  Closed (Err BadKind) bytes rest start now out =
       IsBad header_fault.BadKind bytes rest start now out
-  Closed (Err BadInterface) bytes rest count start now out =
+  Closed (Err BadInterface) bytes rest start now out =
       IsBad header_fault.BadInterface bytes rest start now out
-  Closed (Err TooLong) bytes rest count start now out =
+  Closed (Err TooLong) bytes rest start now out =
       IsBad header_fault.TooLong bytes rest start now out
-  Closed (Err Truncated) bytes rest count start now out = ⊥
-  Closed (Err Input) bytes rest count start now out = ⊥
-  Closed (Err Output) bytes rest count start now out = ⊥
-  Closed (Err (Gateway fault)) bytes rest count start now out =
+  Closed (Err Truncated) bytes rest start now out = ⊥
+  Closed (Err Input) bytes rest start now out = ⊥
+  Closed (Err Output) bytes rest start now out = ⊥
+  Closed (Err (Gateway fault)) bytes rest start now out =
       GatewayRefuses fault bytes start now out
 
   -- all whole frames at the front were settled and their answers sent, or why not, which is never Truncated (⊥)

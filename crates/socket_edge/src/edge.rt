@@ -52,16 +52,17 @@ fn answer_front<P: Peer, D: Disk + Drop>(
         × SentBy result hands.turns }
 {
     stands(gateway);
+    let first = gateway.last();
     let former = match hand_out_held(alloc, gateway) {
         Ok(former) => former,
         Err(fault) => return Err(EdgeFault::Gateway(fault)),
     };
     gateway.held();
-    let (count, halt) = offer_all(waiting, gateway);
+    let halt = offer_all(waiting, gateway);
     let closed = close(halt, waiting, gateway);
     send_before(peer, former.as_slice(), waiting.answered())?;
     closed?;
-    Ok(count)
+    Ok(gateway.last() - first)
 }
 
 /// Offers the whole frames at the front of `waiting`, writes their answers, and compacts where the file has grown.

@@ -83,35 +83,30 @@ pub fn hand_out_held<D: Disk + Drop>(
     }
 }
 
-/// Has the gateway take each whole frame at the front, and says how many it took, and why no more. The frames of the
-/// answers that are handed out stand behind those that were, and behind them those of the answers that are held.
-pub fn offer_all<D: Disk + Drop>(waiting: &mut Waiting, gateway: &mut Gateway<D>) -> (u64, Halt)
+/// Has the gateway take each whole frame at the front, and says why no more. The frames of the answers that are handed
+/// out stand behind those that were, and behind them those of the answers that are held.
+pub fn offer_all<D: Disk + Drop>(waiting: &mut Waiting, gateway: &mut Gateway<D>) -> Halt
     requires stands { gateway.old.fallen ≡ false }
     requires in_place { gateway.old.in_place ≡ true }
     requires held { waiting.old.held ≡ frames gateway.old.told.held }
     ensures offered { (handed : List (ℕ × Answer))
         × (waiting.new.answered ≡ waiting.old.answered ++ frames handed)
-        × ((before : List (ℕ × Answer)) → Offered D.honest D.moment D.left D.failed result.1
-        waiting.old.unanswered waiting.new.unanswered result.0 gateway.old gateway.new
+        × ((before : List (ℕ × Answer)) → Offered D.honest D.moment D.left D.failed result
+        waiting.old.unanswered waiting.new.unanswered gateway.old gateway.new
         before (before ++ handed)) }
     ensures held { waiting.new.held ≡ frames gateway.new.told.held }
     ensures in_place { gateway.new.in_place ≡ true }
 {
-    let most = waiting.unanswered().len();
-    let mut count: usize = 0;
     let mut ahead = Ahead::none();
     loop {
         ahead = ahead.next(waiting.unanswered(), gateway);
         match read_front(waiting.unanswered()) {
-            Front::Cut => return (count as u64, Halt::Cut),
-            Front::Bad(fault) => return (count as u64, Halt::Bad(fault)),
+            Front::Cut => return Halt::Cut,
+            Front::Bad(fault) => return Halt::Bad(fault),
             Front::Whole(kind, moment, size) => {
                 match waiting.take_next(kind, moment, size, gateway) {
-                    Ok(()) => {
-                        prove!(count < most);
-                        count += 1;
-                    }
-                    Err(fault) => return (count as u64, Halt::Refused(fault)),
+                    Ok(()) => {}
+                    Err(fault) => return Halt::Refused(fault),
                 }
             }
         }
@@ -119,8 +114,8 @@ pub fn offer_all<D: Disk + Drop>(waiting: &mut Waiting, gateway: &mut Gateway<D>
 }
 
 /// Hands out what is held, if the gateway has not fallen, and says what the halt means. Of whatever run began at
-/// `start`, and has come over `bytes` to this halt with so many events and these bytes left (`Offered`), the first
-/// clause says that it is closed by this call (`Closed`).
+/// `start`, and has come over `bytes` to this halt with these bytes left (`Offered`), the first clause says that it is
+/// closed by this call (`Closed`).
 pub fn close<D: Disk + Drop>(
     halt: Halt,
     waiting: &mut Waiting,
@@ -130,11 +125,10 @@ pub fn close<D: Disk + Drop>(
     requires held { waiting.old.held ≡ frames gateway.old.told.held }
     ensures closed { (handed : List (ℕ × Answer))
         × (waiting.new.answered ≡ waiting.old.answered ++ frames handed)
-        × ((start : Kept D) (bytes rest : List ℕ) (count : ℕ) (before : List (ℕ × Answer))
+        × ((start : Kept D) (bytes rest : List ℕ) (before : List (ℕ × Answer))
         → Stands D.honest D.moment D.left D.failed start start [] []
-        → Offered D.honest D.moment D.left D.failed halt bytes rest count start gateway.old
-        [] before
-        → Closed D.honest D.moment D.left D.failed result bytes rest count start gateway.new
+        → Offered D.honest D.moment D.left D.failed halt bytes rest start gateway.old [] before
+        → Closed D.honest D.moment D.left D.failed result bytes rest start gateway.new
         (before ++ handed)) }
     ensures rest { waiting.new.unanswered ≡ waiting.old.unanswered }
 {

@@ -1,4 +1,4 @@
-use Rattle.std.proofs.Common.{◌≡◌, ◌++◌, [], List, ℕ, refl, ap, sym, subst, ◌∙◌, append_assoc}
+use Rattle.std.proofs.Common.{◌≡◌, ◌++◌, [], List, ℕ, refl, ap, sym, subst, ◌∙◌, append_assoc, arith}
 use Rattle.std.specs.List.{flat_map}
 use Rattle.std.proofs.lemmas.List.Concat.{flat_map-append}
 use Rattle.std.proofs.lemmas.Result.{err_from_is_err_and}
@@ -30,7 +30,7 @@ returns-in-Err g c =
         [],
         [],
         h.0,
-        sent-bad g.D.Disk.honest g.D.Disk.moment g.D.Disk.left g.D.Disk.seen g.D.Disk.failed g.met.D.Disk.reads g.met.D.Disk.earlier start (Gateway c.in-Err.fault) c.hand_out_held.new.gateway bytes bytes 0 [] refuses bytes [],
+        sent-bad g.D.Disk.honest g.D.Disk.moment g.D.Disk.left g.D.Disk.seen g.D.Disk.failed g.met.D.Disk.reads g.met.D.Disk.earlier start (Gateway c.in-Err.fault) c.hand_out_held.new.gateway bytes bytes [] refuses bytes [],
         h.1,
       );
     }
@@ -41,20 +41,20 @@ returns-in_err-send_before g c =
     let e = c.in_err-send_before.ensures.err in
     let start = c.args.gateway.now in
     let bytes = c.args.waiting.now.unanswered in
-    let rest = c.offer_all-count.new.waiting.unanswered in
+    let rest = c.offer_all-halt.new.waiting.unanswered in
     let first = c.in-Ok.former.items in
-    let o = c.offer_all-count.ensures.offered in
+    let o = c.offer_all-halt.ensures.offered in
     let k = c.close-closed.ensures.closed in
-    let offered = Offered-behind g.D.Disk.honest g.D.Disk.moment g.D.Disk.left g.D.Disk.failed start c.hand_out_held.new.gateway c.offer_all-count.new.gateway c.offer_all-count.result.1 bytes rest c.offer_all-count.result.0 [] first (first ++ o.0) c.in-Ok.ensures.ok (o.2 first) in
-    let closed = k.2 start bytes rest c.offer_all-count.result.0 (first ++ o.0) c.stands.ensures offered in
-    let whole = all_frames c.args.waiting.now.answered c.offer_all-count.new.waiting.answered c.answered.result.now first o.0 k.0 c.requires.sent o.1 (c.answered.ensures ∙ k.1) in
+    let offered = Offered-behind g.D.Disk.honest g.D.Disk.moment g.D.Disk.left g.D.Disk.failed start c.hand_out_held.new.gateway c.offer_all-halt.new.gateway c.offer_all-halt.result bytes rest [] first (first ++ o.0) c.in-Ok.ensures.ok (o.2 first) in
+    let closed = k.2 start bytes rest (first ++ o.0) c.stands.ensures offered in
+    let whole = all_frames c.args.waiting.now.answered c.offer_all-halt.new.waiting.answered c.answered.result.now first o.0 k.0 c.requires.sent o.1 (c.answered.ensures ∙ k.1) in
     let front = rw c.as_slice.ensures.value at e.1 in record {
       came = (
         [],
         front.written,
         front.hands,
         rw (p.1, p.2, e.0) (sent-some g.D.Disk.honest g.D.Disk.moment g.D.Disk.left g.D.Disk.seen g.D.Disk.failed g.met.D.Disk.reads g.met.D.Disk.earlier start c.close-closed.result c.close-closed.new.gateway bytes rest
-            c.offer_all-count.result.0 ((first ++ o.0) ++ k.0) front.written front.lost closed (front.splits ∙ whole) c.close-closed.new.waiting.unanswered []),
+            ((first ++ o.0) ++ k.0) front.written front.lost closed (front.splits ∙ whole) c.close-closed.new.waiting.unanswered []),
         rw (p.1, p.2, e.0) front.last,
       );
     }
@@ -64,36 +64,48 @@ returns-in_err-closed g c =
     let p = err_from_is_err_and c.from_residual-in_err-closed.result c.from_residual-in_err-closed.ensures.1 in
     let start = c.args.gateway.now in
     let bytes = c.args.waiting.now.unanswered in
-    let rest = c.offer_all-count.new.waiting.unanswered in
+    let rest = c.offer_all-halt.new.waiting.unanswered in
     let first = c.in-Ok.former.items in
-    let o = c.offer_all-count.ensures.offered in
+    let o = c.offer_all-halt.ensures.offered in
     let k = c.in_err-closed.ensures.closed in
-    let offered = Offered-behind g.D.Disk.honest g.D.Disk.moment g.D.Disk.left g.D.Disk.failed start c.hand_out_held.new.gateway c.offer_all-count.new.gateway c.offer_all-count.result.1 bytes rest c.offer_all-count.result.0 [] first (first ++ o.0) c.in-Ok.ensures.ok (o.2 first) in
-    let closed = k.2 start bytes rest c.offer_all-count.result.0 (first ++ o.0) c.stands.ensures offered in
-    let whole = all_frames c.args.waiting.now.answered c.offer_all-count.new.waiting.answered c.answered.result.now first o.0 k.0 c.requires.sent o.1 (c.answered.ensures ∙ k.1) in
+    let offered = Offered-behind g.D.Disk.honest g.D.Disk.moment g.D.Disk.left g.D.Disk.failed start c.hand_out_held.new.gateway c.offer_all-halt.new.gateway c.offer_all-halt.result bytes rest [] first (first ++ o.0) c.in-Ok.ensures.ok (o.2 first) in
+    let closed = k.2 start bytes rest (first ++ o.0) c.stands.ensures offered in
+    let whole = all_frames c.args.waiting.now.answered c.offer_all-halt.new.waiting.answered c.answered.result.now first o.0 k.0 c.requires.sent o.1 (c.answered.ensures ∙ k.1) in
     let h = handed-all g.P.Peer.went c.args.peer.now c.send_before.new.peer _ _ whole (rw c.as_slice.ensures.value at c.in_ok-send_before.ensures.ok) in record {
       came = (
         [],
         frames ((first ++ o.0) ++ k.0),
         h.0,
         rw (p.1, p.2) (sent-bad g.D.Disk.honest g.D.Disk.moment g.D.Disk.left g.D.Disk.seen g.D.Disk.failed g.met.D.Disk.reads g.met.D.Disk.earlier start c.in_err-closed.field-0.0 c.close-closed.new.gateway bytes rest
-            c.offer_all-count.result.0 ((first ++ o.0) ++ k.0) closed c.close-closed.new.waiting.unanswered []),
+            ((first ++ o.0) ++ k.0) closed c.close-closed.new.waiting.unanswered []),
         rw (p.1, p.2) (closed-turns g.D.Disk.honest g.D.Disk.moment g.D.Disk.left g.D.Disk.failed start c.close-closed.new.gateway c.in_err-closed.field-0.0 bytes rest
-            c.offer_all-count.result.0 ((first ++ o.0) ++ k.0) h.0.turns closed h.1),
+            ((first ++ o.0) ++ k.0) h.0.turns closed h.1),
       );
     }
+
+pub overflow_sub-result : goal.overflow_sub-result
+overflow_sub-result g c =
+    let start = c.args.gateway.now in
+    let bytes = c.args.waiting.now.unanswered in
+    let rest = c.offer_all-halt.new.waiting.unanswered in
+    let first = c.in-Ok.former.items in
+    let o = c.offer_all-halt.ensures.offered in
+    let k = c.in_ok-closed.ensures.closed in
+    let offered = Offered-behind g.D.Disk.honest g.D.Disk.moment g.D.Disk.left g.D.Disk.failed start c.hand_out_held.new.gateway c.offer_all-halt.new.gateway c.offer_all-halt.result bytes rest [] first (first ++ o.0) c.in-Ok.ensures.ok (o.2 first) in
+    let closed = k.2 start bytes rest (first ++ o.0) c.stands.ensures offered in
+    omega (arith, c.last-first.ensures, c.last.ensures, closed.3.stands.ran.took.last)
 
 pub returns : goal.returns
 returns g c =
     let start = c.args.gateway.now in
     let bytes = c.args.waiting.now.unanswered in
-    let rest = c.offer_all-count.new.waiting.unanswered in
+    let rest = c.offer_all-halt.new.waiting.unanswered in
     let first = c.in-Ok.former.items in
-    let o = c.offer_all-count.ensures.offered in
+    let o = c.offer_all-halt.ensures.offered in
     let k = c.in_ok-closed.ensures.closed in
-    let offered = Offered-behind g.D.Disk.honest g.D.Disk.moment g.D.Disk.left g.D.Disk.failed start c.hand_out_held.new.gateway c.offer_all-count.new.gateway c.offer_all-count.result.1 bytes rest c.offer_all-count.result.0 [] first (first ++ o.0) c.in-Ok.ensures.ok (o.2 first) in
-    let closed = k.2 start bytes rest c.offer_all-count.result.0 (first ++ o.0) c.stands.ensures offered in
-    let whole = all_frames c.args.waiting.now.answered c.offer_all-count.new.waiting.answered c.answered.result.now first o.0 k.0 c.requires.sent o.1 (c.answered.ensures ∙ k.1) in
+    let offered = Offered-behind g.D.Disk.honest g.D.Disk.moment g.D.Disk.left g.D.Disk.failed start c.hand_out_held.new.gateway c.offer_all-halt.new.gateway c.offer_all-halt.result bytes rest [] first (first ++ o.0) c.in-Ok.ensures.ok (o.2 first) in
+    let closed = k.2 start bytes rest (first ++ o.0) c.stands.ensures offered in
+    let whole = all_frames c.args.waiting.now.answered c.offer_all-halt.new.waiting.answered c.answered.result.now first o.0 k.0 c.requires.sent o.1 (c.answered.ensures ∙ k.1) in
     let h = handed-all g.P.Peer.went c.args.peer.now c.send_before.new.peer _ _ whole (rw c.as_slice.ensures.value at c.in_ok-send_before.ensures.ok) in
     let left = c.in_ok-closed.ensures.rest in record {
       came = (
@@ -104,8 +116,8 @@ returns g c =
           closed.0,
           subst (Reads bytes closed.0) (sym left) closed.1,
           ap next left ∙ closed.2,
+          omega (arith, c.last-first.ensures, c.last.ensures, closed.3.stands.ran.took.last),
           closed.3,
-          closed.4,
           refl,
         ),
         h.1,

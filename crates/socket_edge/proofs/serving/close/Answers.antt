@@ -11,10 +11,10 @@ pub returns-then-has_fallen-clause-closed : goal.returns-then-has_fallen-clause-
 returns-then-has_fallen-clause-closed g c = (
   [],
   sym (append-nil c.args.waiting.now.answered),
-  λ start bytes rest count before begun o.
-      subst (λ (out : List (ℕ × Answer)). Closed g.D.Disk.honest g.D.Disk.moment g.D.Disk.left g.D.Disk.failed c.end_at.result bytes rest count start c.args.gateway.now out) (sym (append-nil before))
-      (subst (λ (r : Result (Unit {0}) EdgeFault). Closed g.D.Disk.honest g.D.Disk.moment g.D.Disk.left g.D.Disk.failed r bytes rest count start c.args.gateway.now before) (sym c.end_at.ensures)
-      (fallen g.D.Disk.honest g.D.Disk.moment g.D.Disk.left g.D.Disk.seen g.D.Disk.failed g.met.D.Disk.reads g.met.D.Disk.earlier start c.args.halt c.args.gateway.now bytes rest count before begun o (sym c.has_fallen.ensures.value ∙ c.if-has_fallen.true))),
+  λ start bytes rest before begun o.
+      subst (λ (out : List (ℕ × Answer)). Closed g.D.Disk.honest g.D.Disk.moment g.D.Disk.left g.D.Disk.failed c.end_at.result bytes rest start c.args.gateway.now out) (sym (append-nil before))
+      (subst (λ (r : Result (Unit {0}) EdgeFault). Closed g.D.Disk.honest g.D.Disk.moment g.D.Disk.left g.D.Disk.failed r bytes rest start c.args.gateway.now before) (sym c.end_at.ensures)
+      (fallen g.D.Disk.honest g.D.Disk.moment g.D.Disk.left g.D.Disk.seen g.D.Disk.failed g.met.D.Disk.reads g.met.D.Disk.earlier start c.args.halt c.args.gateway.now bytes rest before begun o (sym c.has_fallen.ensures.value ∙ c.if-has_fallen.true))),
 )
 
 pub returns-in-Err-clause-closed : goal.returns-in-Err-clause-closed
@@ -22,8 +22,8 @@ returns-in-Err-clause-closed g c =
     let e = c.in-Err.ensures in (
       [],
       sym (append-nil c.args.waiting.now.answered),
-      λ start bytes rest count before begun o.
-          fails g.D.Disk.honest g.D.Disk.moment g.D.Disk.left g.D.Disk.seen g.D.Disk.failed g.met.D.Disk.reads g.met.D.Disk.earlier start c.args.halt c.args.gateway.now c.settle.new.gateway bytes rest count
+      λ start bytes rest before begun o.
+          fails g.D.Disk.honest g.D.Disk.moment g.D.Disk.left g.D.Disk.seen g.D.Disk.failed g.met.D.Disk.reads g.met.D.Disk.earlier start c.args.halt c.args.gateway.now c.settle.new.gateway bytes rest
           before (before ++ []) c.in-Err.fault begun o (rw (append-nil before) (e.err before)) (sym c.has_fallen.ensures.value ∙ c.if-has_fallen.false) e.device,
     )
 
@@ -33,8 +33,8 @@ returns-in-Ok-clause-closed g c =
     let held = c.args.gateway.now.told.held in (
       held,
       ap (λ (x : Exchange). x.answered) c.release.ensures ∙ ap (λ (zs : List ℕ). c.args.waiting.now.answered ++ zs) c.requires.held,
-      λ start bytes rest count before begun o.
-          subst (λ (r : Result (Unit {0}) EdgeFault). Closed g.D.Disk.honest g.D.Disk.moment g.D.Disk.left g.D.Disk.failed r bytes rest count start c.settle.new.gateway (before ++ held)) (sym c.end_at-in-Ok.ensures)
-          (closes g.D.Disk.honest g.D.Disk.moment g.D.Disk.left g.D.Disk.seen g.D.Disk.failed g.met.D.Disk.reads g.met.D.Disk.earlier start c.args.halt c.args.gateway.now c.settle.new.gateway bytes rest count
+      λ start bytes rest before begun o.
+          subst (λ (r : Result (Unit {0}) EdgeFault). Closed g.D.Disk.honest g.D.Disk.moment g.D.Disk.left g.D.Disk.failed r bytes rest start c.settle.new.gateway (before ++ held)) (sym c.end_at-in-Ok.ensures)
+          (closes g.D.Disk.honest g.D.Disk.moment g.D.Disk.left g.D.Disk.seen g.D.Disk.failed g.met.D.Disk.reads g.met.D.Disk.earlier start c.args.halt c.args.gateway.now c.settle.new.gateway bytes rest
           before (before ++ held) begun o (e.ok before) (sym c.has_fallen.ensures.value ∙ c.if-has_fallen.false) e.none e.generation),
     )

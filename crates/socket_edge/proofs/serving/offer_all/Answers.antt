@@ -1,5 +1,4 @@
-use Rattle.std.proofs.Common.{◌<◌, [], ◌++◌, List, ℕ, length, ap, sym, ◌∙◌, arith}
-use Rattle.std.proofs.lemmas.Grind.{common_steps}
+use Rattle.std.proofs.Common.{[], ◌++◌, List, ℕ, ap, sym, ◌∙◌}
 use Rattle.std.proofs.lemmas.List.{append-nil}
 use Rattle.frames.specs.Answers.{frames}
 use Rattle.frames.proofs.Fronts.{next_shorter}
@@ -15,7 +14,6 @@ loop-fault-init g c = (
   c.requires.stands,
   c.requires.in_place,
   c.requires.held,
-  ap length c.unanswered-most.ensures,
 )
 
 pub loop-fault-preserved : goal.loop-fault-preserved
@@ -25,23 +23,11 @@ loop-fault-preserved g c =
     let t = c.in-Ok.ensures.ok in (
       i.0 ++ t.1,
       t.3 ∙ ap (λ (x : List ℕ). x ++ frames t.1) i.1 ∙ frames-append c.args.waiting.now.answered i.0 t.1,
-      SoFar-next g.D.Disk.honest g.D.Disk.moment g.D.Disk.left g.D.Disk.failed c.args.gateway.now l.gateway c.take_next.new.gateway c.args.waiting.now.unanswered l.waiting.unanswered c.take_next.new.self.unanswered l.count i.0 t.1 t.0 i.2 t.2 t.4,
+      SoFar-next g.D.Disk.honest g.D.Disk.moment g.D.Disk.left g.D.Disk.failed c.args.gateway.now l.gateway c.take_next.new.gateway c.args.waiting.now.unanswered l.waiting.unanswered c.take_next.new.self.unanswered i.0 t.1 t.0 i.2 t.2 t.4,
       c.in-Ok.ensures.stands,
       c.in-Ok.ensures.in_place,
       c.in-Ok.ensures.held,
-      i.6,
     )
-
-pub prove-unreachable-requires : goal.prove-unreachable-requires
-prove-unreachable-requires g c =
-    let l = c.loop-fault in
-    let t = c.in-Ok.ensures.ok in
-    let shorter = next_shorter l.waiting.unanswered t.0 c.take_next.new.self.unanswered t.2 in
-    let few = l.invariant.2.few in
-    let most = ap length c.unanswered-most.ensures in
-    let less : l.count < length c.unanswered-most.result.now = omega (arith, shorter, few, most) in
-    let other = c.if-prove.true in
-    grind (arith, common_steps)
 
 pub loop-fault-smaller : goal.loop-fault-smaller
 loop-fault-smaller g c =
@@ -54,7 +40,7 @@ returns-in-Cut-clause-offered g c =
     let i = l.invariant in (
       i.0,
       i.1,
-      SoFar-cut g.D.Disk.honest g.D.Disk.moment g.D.Disk.left g.D.Disk.failed c.args.gateway.now l.gateway c.args.waiting.now.unanswered l.waiting.unanswered l.count i.0 i.2 (rw (c.in-Cut.is, c.unanswered-in-loop-fault.ensures) at c.read_front.ensures),
+      SoFar-cut g.D.Disk.honest g.D.Disk.moment g.D.Disk.left g.D.Disk.failed c.args.gateway.now l.gateway c.args.waiting.now.unanswered l.waiting.unanswered i.0 i.2 (rw (c.in-Cut.is, c.unanswered-in-loop-fault.ensures) at c.read_front.ensures),
     )
 
 pub returns-in-Bad-clause-offered : goal.returns-in-Bad-clause-offered
@@ -63,7 +49,7 @@ returns-in-Bad-clause-offered g c =
     let i = l.invariant in (
       i.0,
       i.1,
-      SoFar-bad g.D.Disk.honest g.D.Disk.moment g.D.Disk.left g.D.Disk.failed c.args.gateway.now l.gateway c.args.waiting.now.unanswered l.waiting.unanswered l.count i.0 i.2 c.in-Bad.fault (rw (c.in-Bad.is, c.unanswered-in-loop-fault.ensures) at c.read_front.ensures),
+      SoFar-bad g.D.Disk.honest g.D.Disk.moment g.D.Disk.left g.D.Disk.failed c.args.gateway.now l.gateway c.args.waiting.now.unanswered l.waiting.unanswered i.0 i.2 c.in-Bad.fault (rw (c.in-Bad.is, c.unanswered-in-loop-fault.ensures) at c.read_front.ensures),
     )
 
 pub returns-in-Err-clause-offered : goal.returns-in-Err-clause-offered
@@ -73,5 +59,5 @@ returns-in-Err-clause-offered g c =
     let t = c.in-Err.ensures.err in (
       i.0 ++ t.2,
       t.4 ∙ ap (λ (x : List ℕ). x ++ frames t.2) i.1 ∙ frames-append c.args.waiting.now.answered i.0 t.2,
-      SoFar-refused g.D.Disk.honest g.D.Disk.moment g.D.Disk.left g.D.Disk.failed c.args.gateway.now l.gateway c.args.waiting.now.unanswered l.waiting.unanswered l.count i.0 i.2 c.take_next.new.gateway t.0 t.1 c.take_next.new.self.unanswered t.2 c.in-Err.fault t.3 t.5,
+      SoFar-refused g.D.Disk.honest g.D.Disk.moment g.D.Disk.left g.D.Disk.failed c.args.gateway.now l.gateway c.args.waiting.now.unanswered l.waiting.unanswered i.0 i.2 c.take_next.new.gateway t.0 t.1 c.take_next.new.self.unanswered t.2 c.in-Err.fault t.3 t.5,
     )
