@@ -162,7 +162,7 @@ module _ {D : Type 0} (honest : D → Type 0) (moment : D → ℕ) (left : D →
     pub ends : EndsBy ended turns failed asks'
     pub gave_lan : Gives lan lan' (from_lan (turns ++ failed))
     pub gave_wan : Gives wan wan' (from_wan (turns ++ failed))
-    -- each is a header and a packet, of bytes, also where nothing is known of what a device gives
+    -- each is a header and a packet, of bytes, also if nothing is known of what a device gives
     pub lan_packets : AllByRecursion IsPacket (from_lan (turns ++ failed))
     pub wan_packets : AllByRecursion IsPacket (from_wan (turns ++ failed))
     -- the gateway behind the turns that didn't fail

@@ -1,11 +1,13 @@
 //! Streams of requests, and what the end of one means.
 ghost use Rattle.std.specs.Prelude.{◌≡◌, ℕ, List, Result, Err, IsOk, IfErr, OnOk, false, true};
 ghost use Rattle.std.specs.Io.KnownBytes.{Appends, Consumes, IsAtEnd};
+ghost use Rattle.packet.specs.Laws.{AreBytes};
 ghost use Rattle.gateway.specs.declared.fault.GatewayFault.TheVariants as gateway_fault;
 ghost use Rattle.refusals.specs.declared.refusal.Refusal.TheVariants.{Output, Reopen};
 ghost use Rattle.refusals.specs.Words.{first_line};
 ghost use Rattle.commands.specs.Faults.{IsOfGateway, IsOfStream, EndIsToldAs, edge_refusal};
-ghost use Rattle.socket_edge.specs.Running.{Fares, RunEnded, events_in};
+ghost use Rattle.socket_edge.specs.Running.{AtEachTurn, Fares, RunEnded, events_in};
+ghost use Rattle.socket_edge.specs.Turns.{Turn, given, taken};
 ghost use Rattle.socket_edge.specs.declared.fault.EdgeFault.{EdgeFault as Fault};
 ghost use Rattle.commands.specs.Visits.{EndHasCause};
 
@@ -29,7 +31,12 @@ pub(crate) fn answer_all<R: Read, W: Write, D: Disk + Drop>(
         × Appends (W.contents writer.old) (W.contents writer.new) written
         × RunEnded result gateway.old.told gateway.new.told given written
         (IsAtEnd (R.remaining reader.new))
-        × Fares D.honest D.moment D.left gateway.old gateway.new (events_in given) written }
+        × Fares D.honest D.moment D.left gateway.old gateway.new (events_in given) written
+        × AreBytes given }
+    ensures each_turn { (turns : List Turn)
+        × Consumes (R.remaining reader.old) (R.remaining reader.new) (given turns)
+        × Appends (W.contents writer.old) (W.contents writer.new) (taken turns)
+        × AtEachTurn D.honest D.moment D.left gateway.old gateway.new turns }
     ensures cause { gateway.old.fallen ≡ false
         → EndHasCause D.honest D.moment D.left D.failed result gateway.old gateway.new }
     ensures reopen { gateway.old.fallen ≡ true
@@ -51,16 +58,23 @@ pub fn replay<R: Read, W: Write, D: Disk + Drop>(
     writer: &mut W,
     gateway: &mut Gateway<D>,
 ) -> Result<(), Refusal>
-    // What was read and what was written, how the run ended that this tells of, what a crash leaves of it, and why it
-    // ended so.
+    // What was read and what was written, how the run ended that this tells of, what a crash leaves of it, that what was
+    // read is bytes, and why it ended so.
     ensures ran { (ended : Result ℕ Fault) × EndIsToldAs ended result × (given written : List ℕ)
         × Consumes (R.remaining reader.old) (R.remaining reader.new) given
         × Appends (W.contents writer.old) (W.contents writer.new) written
         × RunEnded ended gateway.old.told gateway.new.told given written
         (IsAtEnd (R.remaining reader.new))
         × Fares D.honest D.moment D.left gateway.old gateway.new (events_in given) written
+        × AreBytes given
         × (gateway.old.fallen ≡ false
         → EndHasCause D.honest D.moment D.left D.failed ended gateway.old gateway.new) }
+
+    // By which turns with the two streams it went, and what a crash leaves that comes between two of them.
+    ensures each_turn { (turns : List Turn)
+        × Consumes (R.remaining reader.old) (R.remaining reader.new) (given turns)
+        × Appends (W.contents writer.old) (W.contents writer.new) (taken turns)
+        × AtEachTurn D.honest D.moment D.left gateway.old gateway.new turns }
     ensures reopen { gateway.old.fallen ≡ true → (result ≡ Err Reopen)
         × (gateway.new ≡ gateway.old) × (reader.new ≡ reader.old) × (writer.new ≡ writer.old) }
     ensures causes { IfErr result IsOfStream }

@@ -1,7 +1,7 @@
 -- The calls of a gateway make lives.
 use Rattle.std.proofs.Common.{◌≡◌, ◌≢◌, ◌↔◌, Result, Ok, Err, Bool, false, true, ℕ, ◌+◌, ◌≤◌, List, [], ◌∷◌, ◌++◌, length, take, drop, arith, inr, refl, sym, ◌∙◌, ap, subst, append_assoc, length-append}
 use Rattle.std.specs.Prelude.{IfErr, IfOk, IsErrOf, MatchResult, OnErr, OnOk}
-use Rattle.std.proofs.lemmas.List.{append-nil, length-take-le, take-append-drop}
+use Rattle.std.proofs.lemmas.List.{append-nil, length-take-le, take-append-drop, take_at}
 use Rattle.std.proofs.Math.Seq.{take-append-add}
 use Rattle.packet.specs.Config.{Config}
 use Rattle.disk_model.specs.Disk.{Files, HasCause, Leaves, LeavesNow, LeavesOnly}
@@ -20,11 +20,11 @@ use Rattle.snapshot.specs.declared.fault.OpenFault.TheVariants as open_fault
 use Rattle.gateway.specs.Kept.{Kept, IsAtRest, IsSafe}
 use Rattle.gateway.specs.Syncing.{end_of}
 use Rattle.gateway.specs.Told.{Told, TookAll, TookFirst}
-use Rattle.gateway.specs.Running.{Ends, SafeThrough, Stands, StopsWithin}
+use Rattle.gateway.specs.Running.{BreaksOff, CarriesOn, Ends, SafeThrough, Stands, Stops, StopsWithin}
 use Rattle.gateway.specs.declared.fault.GatewayFault.{GatewayFault}
 use Rattle.gateway.specs.declared.fault.GatewayFault.TheVariants as fault
 use Rattle.gateway.specs.Lives.{Course, Stopped, Refused, IsLife}
-use Rattle.gateway.specs.Living.{IsLived, RestsInLife, IsInLife, RunsInLife, RestsAgain, StaysInLife, StopsInLife, StopsTaking, GoesOnInLife, TakesInLife, EndsLife, CallsAreLives}
+use Rattle.gateway.specs.Living.{IsLived, RestsInLife, IsInLife, RunsInLife, RestsAgain, StaysInLife, StopsInLife, StopsTaking, GoesOnInLife, TakesAllInLife, EndsLife, EndsTaking, CallsAreLives}
 use Rattle.gateway.proofs.Runs.{compact-stopped, compacted, counted, either, ended, flush-stopped, flushed, length-numbered, stands-still, true-false}
 use Rattle.gateway.proofs.Taking.{after-append, answers-append, length-answers, numbered-append, took_none}
 
@@ -251,6 +251,30 @@ module _ {D : Type 0} (honest : D → Type 0) (moment : D → ℕ) (left : D →
       (subst (λ (l : List (ℕ × Answer)). IsLived honest moment left seen config entry at begun ((is.earlier ++ is.more) ++ taken) l old.disk new.disk) (sym is.given_are)
       (stopped-through honest moment left seen config entry at begun is.earlier is.answered is.rested is.rests failed old new is.more taken judged is.out is.stands are (safe is.out)))
 
+  -- and so it goes on, whatever it held
+  takes-all : (taken : List Event) (out : List (ℕ × Answer)) → ((start : Kept D) (events : List Event) (before : List (ℕ × Answer)) → Stands honest moment left failed start old events before
+      → Stands honest moment left failed start new (events ++ taken) (before ++ out)) → TakesAllInLife honest moment left seen failed old new taken out
+  takes-all taken out on = λ config entry at begun events given is. record {
+    earlier = is.earlier;
+    answered = is.answered;
+    rested = is.rested;
+    rests = is.rests;
+    more = is.more ++ taken;
+    out = is.out ++ out;
+    stands = on is.rested is.more is.out is.stands;
+    events_are = ap (λ (es : List Event). es ++ taken) is.events_are ∙ append_assoc is.earlier is.more taken;
+    given_are = ap (λ (l : List (ℕ × Answer)). l ++ out) is.given_are ∙ append_assoc is.answered is.out out;
+  }
+
+  -- or its life ends
+  ends-taking : (taken : List Event) (out : List (ℕ × Answer)) → ((start : Kept D) (events : List Event) (before : List (ℕ × Answer)) → Stands honest moment left failed start old events before
+      → Ends honest moment left failed start new (events ++ taken) (before ++ out)) → EndsTaking honest moment left seen failed old new taken out
+  ends-taking taken out ends = λ config entry at begun events given is.
+      subst (λ (es : List Event). IsLived honest moment left seen config entry at begun es (given ++ out) new.disk new.disk) (sym (ap (λ (es : List Event). es ++ taken) is.events_are ∙ append_assoc is.earlier is.more taken))
+      (subst (λ (l : List (ℕ × Answer)). IsLived honest moment left seen config entry at begun (is.earlier ++ (is.more ++ taken)) l new.disk new.disk)
+      (sym (ap (λ (l : List (ℕ × Answer)). l ++ out) is.given_are ∙ append_assoc is.answered is.out out))
+      (stopped-after honest moment left seen config entry at begun is.earlier is.answered is.rested is.rests failed earlier new (is.more ++ taken) (is.out ++ out) (ends is.rested is.more is.out is.stands)))
+
   -- with a fault, having taken the first of the events
   abbrev ThroughFront : List Event → List (ℕ × Answer) → GatewayFault → Type 0
   ThroughFront events out why = (stops : StopsWithin honest moment left failed old new events out why)
@@ -263,9 +287,11 @@ module _ {D : Type 0} (honest : D → Type 0) (moment : D → ℕ) (left : D →
       → (old.fallen ≡ false → honest old.disk → LeavesOnly moment left old.disk new.disk (IsConfigured old.told.config))
       → OnOk result (new.told.held ≡ []) → OnOk result (new.fallen ≡ false)
       → ((before : List (ℕ × Answer)) → SafeThrough honest moment left failed old new events before)
-      → IfOk result (λ a. RunsInLife honest moment left seen old new events (items a) × RestsAgain honest moment left seen old new events (items a) × StopsTaking honest moment left seen failed old new events)
-  run-ok (Err e) events items Q took was stays any exit conf none stands safe = tt
-  run-ok (Ok a) events items Q took was stays any exit conf none stands safe = (
+      → IfOk result (λ a. (before : List (ℕ × Answer)) → CarriesOn honest moment left failed old new events before (before ++ items a))
+      → IfOk result (λ a. RunsInLife honest moment left seen old new events (items a) × RestsAgain honest moment left seen old new events (items a) × StopsTaking honest moment left seen failed old new events
+      × TakesAllInLife honest moment left seen failed old new events (items a))
+  run-ok (Err e) events items Q took was stays any exit conf none stands safe carries = tt
+  run-ok (Ok a) events items Q took was stays any exit conf none stands safe carries = (
     runs-in-life events (items a) (λ rests. record {
       ran = record { took = took; stood = rests.stands; was_honest = was; stays_honest = stays; any_moment = any; configured = conf rests.stands };
       at_exit = exit;
@@ -273,6 +299,7 @@ module _ {D : Type 0} (honest : D → Type 0) (moment : D → ℕ) (left : D →
     λ config entry at begun es given r. rests-again honest moment left seen config entry at begun es given old r new events (items a) took
         (record { stands = stands; is_honest = stays stands r.rests.is_honest; none = none }),
     stops-taking events took.judged took.are_judged safe,
+    takes-all events (items a) (λ start es before s. carries before start es s),
   )
 
   -- it had fallen, so that it was in no life
@@ -286,31 +313,59 @@ module _ {D : Type 0} (honest : D → Type 0) (moment : D → ℕ) (left : D →
 
   -- what was taken of the events, and what becomes of the life
   abbrev TakesFront : List Event → List (ℕ × Answer) → GatewayFault → Type 0
-  TakesFront events out why = (front : List Event) × (back : List Event) × (events ≡ front ++ back) × RunsInLife honest moment left seen old new front out
+  TakesFront events out why = (front : List Event) × (back : List Event) × (events ≡ front ++ back) × TookAll old.told new.told front out × RunsInLife honest moment left seen old new front out
       × (why ≢ fault.Device → StaysInLife honest moment left seen failed old new front out) × StopsTaking honest moment left seen failed old new front
+      × (why ≢ fault.Device → TakesAllInLife honest moment left seen failed old new front out) × EndsTaking honest moment left seen failed old new front out
+
+  same-front : (a b c d : List Event) → a ++ b ≡ c ++ d → length a ≡ length c → a ≡ c
+  same-front a b c d e size = sym (take_at a b (length a) refl) ∙ ap (take (length a)) e ∙ take_at c d (length a) (sym size)
+
+  -- each run that stood ends behind the events that were taken, and no others
+  stops-there : (events : List Event) (out : List (ℕ × Answer)) (why : GatewayFault) (w : StopsWithin honest moment left failed old new events out why)
+      → ((before : List (ℕ × Answer)) → BreaksOff honest moment left failed old new events before (before ++ out) why)
+      → (start : Kept D) (es : List Event) (before : List (ℕ × Answer)) → Stands honest moment left failed start old es before → Stops honest moment left failed start new (es ++ w.front) (before ++ out) why
+  stops-there events out why w breaks start es before s =
+      let off = breaks before start es s in
+      let size : length off.0 ≡ length w.front = omega (arith, w.stops.ends.ran.took.last, off.3.ends.ran.took.last, s.ran.took.last, length-append es off.0) in
+      subst (λ (front : List Event). Stops honest moment left failed start new (es ++ front) (before ++ out) why) (same-front off.0 off.1 w.front w.back (sym off.2 ∙ w.split) size) off.3
 
   takes-front : (events : List Event) (out : List (ℕ × Answer)) (why : GatewayFault) (fallen : Bool) → old.fallen ≡ fallen
-      → (old.fallen ≡ false → ThroughFront events out why) → TookFirst old.told new.told events out → TakesFront events out why
-  takes-front events out why false up through first =
+      → (old.fallen ≡ false → ThroughFront events out why) → (old.fallen ≡ false → (before : List (ℕ × Answer)) → BreaksOff honest moment left failed old new events before (before ++ out) why)
+      → TookFirst old.told new.told events out → TakesFront events out why
+  takes-front events out why false up through breaks first =
       let t = through up in
       let w = t.0 in
       let took = w.stops.ends.ran.took in
-      (w.front, w.back, w.split, runs-in-life w.front out (λ rests. w.stops.ends), (λ other. stays-in-life w.front out (w.stops.stays other)), stops-taking w.front took.judged took.are_judged t.1)
-  takes-front events out why true down through first = (
+      let there = stops-there events out why w (breaks up) in (
+        w.front,
+        w.back,
+        w.split,
+        took,
+        runs-in-life w.front out (λ rests. w.stops.ends),
+        (λ other. stays-in-life w.front out (w.stops.stays other)),
+        stops-taking w.front took.judged took.are_judged t.1,
+        (λ other. takes-all w.front out (λ start es before s. (there start es before s).stays other)),
+        ends-taking w.front out (λ start es before s. (there start es before s).ends),
+      )
+  takes-front events out why true down through breaks first = (
     first.front,
     first.back,
     first.split,
+    first.took,
     (λ config entry at begun es given r. absurd (fallen-rests down r.rests)),
     (λ other config entry at begun es given r. absurd (fallen-rests down r.rests)),
+    (λ config entry at begun es given is. absurd (true-false old.fallen down is.stands.stands)),
+    (λ other config entry at begun es given is. absurd (true-false old.fallen down is.stands.stands)),
     (λ config entry at begun es given is. absurd (true-false old.fallen down is.stands.stands)),
   )
 
   pub run-err : {T E : Type 0} (result : Result T E) (events : List Event) (items : E → List (ℕ × Answer)) (why : E → GatewayFault)
       → (old.fallen ≡ false → IfErr result (λ e. ThroughFront events (items e) (why e)))
+      → (old.fallen ≡ false → IfErr result (λ e. (before : List (ℕ × Answer)) → BreaksOff honest moment left failed old new events before (before ++ items e) (why e)))
       → IfErr result (λ e. TookFirst old.told new.told events (items e))
       → IfErr result (λ e. TakesFront events (items e) (why e))
-  run-err (Ok a) events items why through first = tt
-  run-err (Err e) events items why through first = takes-front events (items e) (why e) old.fallen refl through first
+  run-err (Ok a) events items why through breaks first = tt
+  run-err (Err e) events items why through breaks first = takes-front events (items e) (why e) old.fallen refl through breaks first
 
 -- ---- call by call
 
@@ -378,18 +433,8 @@ module _ {D : Type 0} (honest : D → Type 0) (moment : D → ℕ) (left : D →
 
   -- after one that takes an event
   pub takes-in-life : (event : Event) (handed : List (ℕ × Answer)) → ((start : Kept D) (events : List Event) (out : List (ℕ × Answer)) → Stands honest moment left failed start old events out
-      → Stands honest moment left failed start new (events ++ event ∷ []) (out ++ handed)) → TakesInLife honest moment left seen failed old new event handed
-  takes-in-life event handed on = λ config entry at begun events given is. record {
-    earlier = is.earlier;
-    answered = is.answered;
-    rested = is.rested;
-    rests = is.rests;
-    more = is.more ++ event ∷ [];
-    out = is.out ++ handed;
-    stands = on is.rested is.more is.out is.stands;
-    events_are = ap (λ (es : List Event). es ++ event ∷ []) is.events_are ∙ append_assoc is.earlier is.more (event ∷ []);
-    given_are = ap (λ (l : List (ℕ × Answer)). l ++ handed) is.given_are ∙ append_assoc is.answered is.out handed;
-  }
+      → Stands honest moment left failed start new (events ++ event ∷ []) (out ++ handed)) → TakesAllInLife honest moment left seen failed old new (event ∷ []) handed
+  takes-in-life event handed on = takes-all honest moment left seen failed earlier old new (event ∷ []) handed on
 
   -- within one that makes no call of the disk
   pub stops-where-it-was : new.disk ≡ old.disk → EndsLife honest moment left seen failed old old → StopsInLife honest moment left seen failed old new

@@ -117,12 +117,25 @@ module _ {D : Type 0} (honest : D → Type 0) (moment : D → ℕ) (left : D →
         → IsInLife config entry opened_at begun events given old
         → IsInLife config entry opened_at begun events (given ++ out) new
 
-    -- The call takes this event; after it the gateway is in the same life, with these answers given out too.
-    abbrev pub TakesInLife : Event → List (ℕ × Answer) → Type 0
-    TakesInLife event out = (config : Config) (entry : D) (opened_at : ℕ) (begun : Kept D)
+    -- The call takes these events. Whatever life the gateway is in, and whatever it holds, it is in the same life after
+    -- it, with these answers given out too.
+    abbrev pub TakesAllInLife : List Event → List (ℕ × Answer) → Type 0
+    TakesAllInLife taken out = (config : Config) (entry : D) (opened_at : ℕ) (begun : Kept D)
         (events : List Event) (given : List (ℕ × Answer))
         → IsInLife config entry opened_at begun events given old
-        → IsInLife config entry opened_at begun (events ++ event ∷ []) (given ++ out) new
+        → IsInLife config entry opened_at begun (events ++ taken) (given ++ out) new
+
+    -- the same of one event
+    abbrev pub TakesInLife : Event → List (ℕ × Answer) → Type 0
+    TakesInLife event = TakesAllInLife (event ∷ [])
+
+    -- The call takes these events, and a stop after it is the end of the life, with these answers given out too.
+    abbrev pub EndsTaking : List Event → List (ℕ × Answer) → Type 0
+    EndsTaking taken out = (config : Config) (entry : D) (opened_at : ℕ) (begun : Kept D)
+        (events : List Event) (given : List (ℕ × Answer))
+        → IsInLife config entry opened_at begun events given old
+        → IsLived honest moment left seen config entry opened_at begun (events ++ taken)
+        (given ++ out) new.disk new.disk
 
     -- The call takes these events. A gateway that rested before is in the same life after it, with these answers given
     -- out too; it may hold others.
@@ -161,7 +174,7 @@ module _ {D : Type 0} (honest : D → Type 0) (moment : D → ℕ) (left : D →
         → SafeWithin honest moment left failed old new out
         → IsLived honest moment left seen config entry opened_at begun (events ++ more)
         (given ++ out) old.disk new.disk
-    -- Within calls that take events, these are taken in the life that the stop ends, each as it is judged. Answers may
+    -- A stop within calls that take events ends a life in which these count as taken, each as it is judged. Answers may
     -- be held when the calls begin.
     pub through : (config : Config) (entry : D) (opened_at : ℕ) (begun rested old new : Kept D)
         (events more taken : List Event) (judged : List Judged) (given out : List (ℕ × Answer))

@@ -15,10 +15,11 @@ ghost use Rattle.machine.specs.declared.event.Event.{Event};
 ghost use Rattle.machine.specs.declared.event.What.TheVariants.{Packet};
 ghost use Rattle.gateway.specs.Given.{answer_given, given_by, handed};
 ghost use Rattle.gateway.specs.Lives.{GoesOnAfterAStop, IsLife, LivesAreTheModels, Refused, Stopped};
-ghost use Rattle.gateway.specs.Living.{CallsAreLives, EndsLife, GoesOnInLife, RestsAgain, RestsInLife, RunsInLife, StaysInLife, StopsInLife, StopsTaking, TakesInLife};
+ghost use Rattle.gateway.specs.Living.{CallsAreLives, EndsLife, EndsTaking, GoesOnInLife, RestsAgain, RestsInLife, RunsInLife, StaysInLife, StopsInLife, StopsTaking, TakesAllInLife, TakesInLife};
 ghost use Rattle.gateway.specs.Restarts.{RestartsKeepTheState};
 ghost use Rattle.gateway.specs.Standing.{CallsStandForTheModel};
 ghost use Rattle.gateway.specs.Taking.{IsNoPacket};
+ghost use Rattle.gateway.specs.Told.{TookAll};
 
 use crate::calls::Gateway;
 use crate::{GatewayFault, Given, GivenInPlace, OpenFault};
@@ -37,12 +38,12 @@ pub fn calls_stand_for_the_model()
     ensures { CallsStandForTheModel }
 {}
 
-/// Gateways are opened one after the other with one configuration, each over files that the one before may have left,
-/// which was stopped at any moment, within any call, its opening too. Then no opening answers `Damaged` or
-/// `ConfigDiffers`, and `Generations` only if the files may be of a former version and of the last generation. Each
-/// gateway begins again from what must survive of the model's state after some first events of the earlier lives, each
-/// in its turn, and these hold every event whose answer was given out. Every answer that it gives out is the model's
-/// from there on. Files of version 1 may be the first.
+/// Gateways are opened one after the other with one configuration, each over files that the one before may have left, or
+/// over what an opening of those may have made of them (`NextFinds`). Each was stopped at any moment, within any call, its
+/// opening too. Then no opening answers `Damaged` or `ConfigDiffers`, and `Generations` only if the files may be of a
+/// former version and of the last generation. Each gateway begins again from what must survive of the model's state after
+/// some first events of the earlier lives, each in its turn, and these hold every event whose answer was given out. Every
+/// answer that it gives out is the model's from there on. Files of version 1 may be the first.
 ///
 /// What a life is (`IsLife` of `specs/Lives`) is what the clauses of the calls say: the functions below, and
 /// `socket_edge::laws::runs_are_lives`, are proved to make such ones.
@@ -96,8 +97,8 @@ pub fn open_in_lives<D: Disk + Drop>(
 
 /// Takes events (`Gateway::run`), for a gateway that rests in its life. Stopped within it, or after it, that is a life.
 /// If it ends well, the gateway rests again; with any fault but `Device` it goes on in its life, and may hold answers.
-/// Whatever the gateway holds when it begins, a stop within it is the end of its life, with all answers that were given
-/// out before.
+/// Whatever the gateway holds when it begins, it goes on in its life, with these answers given out too, or that ends with
+/// them; and a stop within it is the end of its life, with all answers that were given out before.
 ///
 /// # Errors
 ///
@@ -112,16 +113,23 @@ pub fn run_in_lives<D: Disk + Drop>(
         × RestsAgain D.honest D.moment D.left D.seen gateway.old gateway.new events.items
         answers.items
         × StopsTaking D.honest D.moment D.left D.seen D.failed gateway.old gateway.new
-        events.items) }
+        events.items
+        × TakesAllInLife D.honest D.moment D.left D.seen D.failed gateway.old gateway.new
+        events.items answers.items) }
 
     // With a fault, this is said of those that were taken. Unless a call of the disk failed, the gateway stays in its
     // life.
     ensures err { IfErr result (λ e. (front : List Event)
         × (back : List Event) × (events.items ≡ front ++ back)
+        × TookAll gateway.old.told gateway.new.told front e.0.items
         × RunsInLife D.honest D.moment D.left D.seen gateway.old gateway.new front e.0.items
         × (e.1 ≢ GatewayFault.Device → StaysInLife D.honest D.moment D.left D.seen D.failed
         gateway.old gateway.new front e.0.items)
-        × StopsTaking D.honest D.moment D.left D.seen D.failed gateway.old gateway.new front) }
+        × StopsTaking D.honest D.moment D.left D.seen D.failed gateway.old gateway.new front
+        × (e.1 ≢ GatewayFault.Device → TakesAllInLife D.honest D.moment D.left D.seen D.failed
+        gateway.old gateway.new front e.0.items)
+        × EndsTaking D.honest D.moment D.left D.seen D.failed gateway.old gateway.new front
+        e.0.items) }
 {
     gateway.run(events)
 }

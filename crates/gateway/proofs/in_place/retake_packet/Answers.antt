@@ -1,6 +1,4 @@
-use Rattle.std.proofs.Common.{[], ◌∷◌, refl}
-use Rattle.machine.specs.declared.event.Event.{Event}
-use Rattle.machine.specs.declared.event.What.TheVariants.{Packet}
+use Rattle.std.proofs.Common.{refl}
 use Rattle.gateway.proofs.Runs.{still-within}
 use Rattle.gateway.proofs.in_place.retake_packet.Goals as goal
 
