@@ -1,4 +1,5 @@
 pub mod Anew
+pub mod Found
 pub mod Joined
 pub mod Lived
 pub mod Opened

@@ -1,17 +1,16 @@
 -- An opening that makes its file anew, in lives.
 use Rattle.std.proofs.Common.{◌≡◌, ◌↔◌, Result, Ok, Err, false, ℕ, List, [], refl, sym, ap, ◌∙◌, subst}
-use Rattle.std.specs.Prelude.{IfErr, IfOk, MatchResult}
-use Rattle.packet.specs.Config.{Config}
+use Rattle.std.specs.Prelude.{IfErr, IfOk, IsTrue, MatchResult}
+use Rattle.packet.specs.Config.{Config, is_config}
 use Rattle.disk_model.specs.Disk.{Files, Leaves, LeavesNow, LeavesOnly}
 use Rattle.durable.specs.Entering.{Durable}
 use Rattle.durable.specs.Recovery.{Alike, IsConfigured, Recovers}
 use Rattle.machine.specs.Noted.{IsResumed}
 use Rattle.gateway.specs.Kept.{Kept, IsAtRest}
-use Rattle.gateway.specs.Lives.{AreLives, BothMayBecome, Course, IsLife, Life, NextFinds, Refused, Stopped}
+use Rattle.gateway.specs.Lives.{AreLives, BothMayBecome, Course, IsLife, Life, LivesAreTheModels, NextFinds, Refused, Stopped}
 use Rattle.gateway.specs.Living.{RestsInLife}
 use Rattle.gateway.specs.declared.fault.GatewayFault.{GatewayFault}
 use Rattle.gateway.proofs.Becoming.{active-back}
-use Rattle.gateway.proofs.Lives.{lives-are}
 use Rattle.gateway.proofs.Taking.{took_none}
 use Rattle.snapshot.specs.declared.fault.OpenFault.{OpenFault}
 use Rattle.commands.specs.Causes.{AnewHasCause, IsLastCurrent}
@@ -52,15 +51,16 @@ module _ {D : Type 0} (honest : D → Type 0) (moment : D → ℕ) (left : D →
   over-refused (Ok g) h stopped cause = tt
   over-refused (Err e) h stopped cause = λ fault is. refused-by e.0 e.1 fault stopped cause is h
 
-  pub over-rests : (r : Result (Kept D) (D × AnewFault)) (Q : D × AnewFault → Type 0) → honest entry → MatchResult r (λ g. honest entry ↔ honest g.disk) Q
+  pub over-rests : (r : Result (Kept D) (D × AnewFault)) (Q : D × AnewFault → Type 0) → IsTrue (is_config config) → honest entry → MatchResult r (λ g. honest entry ↔ honest g.disk) Q
       → IfOk r (λ g. (d : Durable) × Recovers (seen entry) d × IsResumed config d at g.told.state × LeavesNow moment left g.disk (λ files. Recovers files d))
       → IfOk r (λ g. g.told.config ≡ config) → IfOk r (λ g. (g.told.last ≡ 0) × (g.told.held ≡ []) × (g.fallen ≡ false))
       → IfOk r (λ g. RestsInLife honest moment left seen config entry at g [] [] g)
-  over-rests (Err e) Q h on ok configured begins = tt
-  over-rests (Ok g) Q h on ok configured begins =
+  over-rests (Err e) Q valid h on ok configured begins = tt
+  over-rests (Ok g) Q valid h on ok configured begins =
       let rests : IsAtRest honest g = record { stands = begins.2; is_honest = on.0 h; none = begins.1 } in
       record {
         opened = record {
+          valid = valid;
           was_honest = h;
           rests = rests;
           configured = configured;
@@ -71,16 +71,15 @@ module _ {D : Type 0} (honest : D → Type 0) (moment : D → ℕ) (left : D →
         rests = rests;
       }
 
-  module _ (reads : (disk : D) → honest disk → left disk (moment disk) (seen disk)) (h : honest entry) (first : Durable) (earlier : List (Life D)) (are : AreLives honest moment left seen config first earlier)
+  module _ (reads : (disk : D) → honest disk → left disk (moment disk) (seen disk)) (lives : LivesAreTheModels honest moment left seen config) (h : honest entry) (first : Durable) (earlier : List (Life D)) (are : AreLives honest moment left seen config first earlier)
       (before : LeavesNow moment left entry (NextFinds honest moment left seen config first earlier)) where
     tells : (new : D) (why : AnewFault) → Live (Stopped new) → AnewHasCause honest moment left seen failed config entry new why → TellsBehind honest moment left seen config first earlier why
     tells new (Opening fault) stopped cause =
         let life : Life D = record { disk = entry; opened_at = at; course = Refused new fault } in
-        (lives-are honest moment left seen reads config).each first life earlier (refused-by new (Opening fault) fault stopped cause refl h, before, are)
+        lives.each first life earlier (refused-by new (Opening fault) fault stopped cause refl h, before, are)
     tells new (Making fault) stopped cause = λ is.
-        let all = lives-are honest moment left seen reads config in
         let was = before (seen entry) (reads entry h) in
-        let stood = all.stood first earlier was.0 are (all.as_left first earlier was.0 was.1) in
+        let stood = lives.stood first earlier was.0 are (lives.as_left first earlier was.0 was.1) in
         (was.0, was.1, current-before was.0 (seen entry) stood.0 was.2 stood.1 (cause.generations h is))
 
     pub over-tells : (r : Result (Kept D) (D × AnewFault)) → MatchResult r (λ g. Live (Stopped g.disk)) (λ e. Live (Stopped e.0))

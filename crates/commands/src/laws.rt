@@ -1,19 +1,35 @@
-//! What follows from the definitions of `specs/Lives` and `specs/Visits`: an opening that makes its file anew, and
-//! clients that are served one after the other, are part of the life of a gateway, as `gateway::laws` speaks of lives.
+//! What follows from the definitions of `specs/Found`, `specs/Lives` and `specs/Visits`: an opening of files that makes
+//! its file anew, and clients that are served one after the other, are part of the life of a gateway, as
+//! `gateway::laws` speaks of lives.
 ghost use Rattle.std.specs.Prelude.{◌≡◌, [], List, IfErr, IfOk, MatchResult};
+ghost use Rattle.packet.specs.Config.{Config};
 ghost use Rattle.disk_model.specs.Disk.{LeavesNow};
 ghost use Rattle.durable.specs.Entering.{Durable};
+ghost use Rattle.file_disk.specs.Filed.{Filed};
 ghost use Rattle.gateway.specs.Lives.{AreLives, IsLife, Life, NextFinds, Refused, Stopped};
 ghost use Rattle.gateway.specs.Living.{RestsInLife};
 ghost use Rattle.snapshot.specs.declared.fault.OpenFault.{OpenFault};
+ghost use Rattle.commands.specs.Found.{OpeningsFind};
 ghost use Rattle.commands.specs.Lives.{TellsBehind, UnseenVisitsAreLives, VisitsAreLives};
 
 use crate::clients::Clients;
 use crate::opening::{AnewFault, open_over};
 use disk_model::Disk;
+use file_disk::DiskFile;
+use file_disk::laws::openings_keep_files;
 use gateway::Gateway;
+use gateway::laws::lives_are_the_models;
 use packet::Bounds;
 use std::alloc::Global;
+
+/// Files that an opening has prepared, or has left that failed, are what the next gateway may find, if they were before
+/// it: what a crash leaves of a disk that was opened is as `open_over_in_lives` asks of it, behind earlier lives.
+pub fn openings_find<F: DiskFile>(file: &F)
+    ensures { (config : Config) (first : Durable) (earlier : List (Life (Filed F)))
+        → OpeningsFind F.honest F.holds F.leaves config first earlier F.lacks_space }
+{
+    openings_keep_files(file);
+}
 
 /// Opens a gateway and makes its file anew (`open_over`), as `serve`, `replay`, `loop` and `tun` do before all else.
 /// Stopped within it, or ended by any fault, that is a life; else the gateway that it gives is in its life. Behind
@@ -44,6 +60,8 @@ pub fn open_over_in_lives<D: Disk + Drop>(
         (NextFinds D.honest D.moment D.left D.seen bounds first earlier)
         → IfErr result (λ e. TellsBehind D.honest D.moment D.left D.seen bounds first earlier e.1) }
 {
+    bounds.facts();
+    lives_are_the_models(&disk);
     open_over(alloc, disk, bounds, moment)
 }
 

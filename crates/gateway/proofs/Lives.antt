@@ -1,5 +1,5 @@
 -- One life after another.
-use Rattle.std.proofs.Common.{◌≡◌, ℕ, List, [], ◌∷◌, inl, inr, refl, ◌∙◌, ap, subst}
+use Rattle.std.proofs.Common.{◌≡◌, ℕ, List, [], ◌∷◌, ◌++◌, length, inl, inr, refl, sym, ◌∙◌, ap, subst}
 use Rattle.packet.specs.Config.{Config}
 use Rattle.disk_model.specs.Disk.{Files}
 use Rattle.disk_model.specs.declared.disk.FileId.{FileId}
@@ -14,7 +14,8 @@ use Rattle.machine.specs.Machine.{after}
 use Rattle.machine.specs.Noted.{IsResumed, lasting}
 use Rattle.snapshot.specs.Store.{IsLastFormer}
 use Rattle.gateway.proofs.Becoming.{active-back, configured-on, recovers-on, stays}
-use Rattle.gateway.specs.Lives.{BothMayBecome, NextFinds, Life, Work, Course, Stopped, Refused, Opened, LivesLead, LifeLeaves, LivesLeave, OpeningKeeps, WorkGoes, CourseGoes, AreLives, IsAsModel, LivesAreTheModels, GoesOnAfterAStop, opened}
+use Rattle.gateway.specs.Lives.{AllOpenedNone, BothMayBecome, GoesOnFrom, NextFinds, Life, Work, Course, OpenedNone, Stopped, Refused, Opened, LivesLead, LifeLeads, LifeLeaves, LivesLeave, OpeningKeeps, WorkGoes, CourseGoes, AreLives, IsAsModel, LivesAreTheModels, GoesOnAfterAStop, opened}
+use Rattle.gateway.specs.Restarts.{RestartsKeepTheState}
 
 module _ {D : Type 0} (honest : D → Type 0) (moment : D → ℕ) (left : D → ℕ → Files → Type 0) (seen : D → Files)
     (reads : (disk : D) → honest disk → left disk (moment disk) (seen disk)) (config : Config) (first : Durable) where
@@ -118,6 +119,34 @@ module _ {D : Type 0} (honest : D → Type 0) (moment : D → ℕ) (left : D →
         (restart-sound config r.0 at work.start (recovers_sound.sound config (seen entry) r.0 stood.2 r.1) (recovers_sound.stilled (seen entry) r.0 r.1) r.2).0,
       )
 
+  -- lives in which no gateway was opened lead to what was there before
+  led-same : (at : ℕ) (course : Course D) (old new : Durable) → OpenedNone course → LifeLeads config at course old new → new ≡ old
+  led-same at (Stopped disk) old new none led = led
+  led-same at (Refused disk fault) old new none led = led
+  led-same at (Opened work) old new none led = absurd none
+
+  led-before : (between lives : List (Life D)) (d : Durable) → AllOpenedNone between → LivesLead config first (between ++ lives) d → LivesLead config first lives d
+  led-before [] lives d none led = led
+  led-before (life ∷ between) lives d none led =
+      led-before between lives d none.1 (subst (LivesLead config first (between ++ lives)) (sym (led-same life.opened_at life.course led.0 d none.0 led.2)) led.1)
+
+  are-before : (between lives : List (Life D)) → AreLives honest moment left seen config first (between ++ lives) → AreLives honest moment left seen config first lives
+  are-before [] lives are = are
+  are-before (life ∷ between) lives are = are-before between lives are.2
+
+  -- the next gateway
+  pub goes-from : RestartsKeepTheState → (entry again : D) (at next : ℕ) (one two : Work D) (between earlier : List (Life D)) → AllOpenedNone between
+      → AreLives honest moment left seen config first (opened honest moment left seen config again next two ∷ (between ++ (opened honest moment left seen config entry at one ∷ earlier)))
+      → GoesOnFrom config one next two
+  goes-from restarts entry again at next one two between earlier none are =
+      let rest = opened honest moment left seen config entry at one ∷ earlier in
+      let was = are-before between rest are.2 in
+      let now = is-as-model (between ++ rest) again next (Opened two) are.0.0 are.2 are.1 are.0.1 in
+      let before = is-as-model earlier entry at (Opened one) was.0.0 was.2 was.1 was.0.1 in
+      let led = led-before between rest now.0.0 none now.0.1 in
+      let is = restarts.after_a_life config one.start two.start one.events (length one.given) next now.0.0 was.0.1.valid before.2 led.2.1 now.0.2 in
+      record { count = is.0; answered = is.1; within = is.2; judged = is.3; are_judged = is.4; is = is.5 }
+
 -- nothing is stored yet
 new-files : (config : Config) (files : Files) → NoneOpen files → Recovers files empty × IsConfigured config files
 new-files config files none = (inl (none, refl), none-configured)
@@ -135,9 +164,10 @@ found-files config files file h d end active is = (
 )
 
 pub lives-are : {D : Type 0} (honest : D → Type 0) (moment : D → ℕ) (left : D → ℕ → Files → Type 0) (seen : D → Files)
-    → ((disk : D) → honest disk → left disk (moment disk) (seen disk)) → (config : Config) → LivesAreTheModels honest moment left seen config
-lives-are honest moment left seen reads config = record {
+    → ((disk : D) → honest disk → left disk (moment disk) (seen disk)) → RestartsKeepTheState → (config : Config) → LivesAreTheModels honest moment left seen config
+lives-are honest moment left seen reads restarts config = record {
   each = λ first life earlier are. is-as-model honest moment left seen reads config first earlier life.disk life.opened_at life.course are.0.0 are.2 are.1 are.0.1;
+  goes_on = λ first. goes-from honest moment left seen reads config first restarts;
   as_left = λ first lives files was. (files, was, λ file. stays (files file));
   new = new-files config;
   found = found-files config;
@@ -146,8 +176,9 @@ lives-are honest moment left seen reads config = record {
 
 -- a stop between two lives
 pub goes-on : {D : Type 0} (honest : D → Type 0) (moment : D → ℕ) (left : D → ℕ → Files → Type 0) (seen : D → Files)
-    → ((disk : D) → honest disk → left disk (moment disk) (seen disk)) → (config : Config) → GoesOnAfterAStop honest moment left seen config
-goes-on honest moment left seen reads config = λ entry again at next one two are.
-    let is = (lives-are honest moment left seen reads config).each empty (opened honest moment left seen config again next two) (opened honest moment left seen config entry at one ∷ []) are in
+    → ((disk : D) → honest disk → left disk (moment disk) (seen disk)) → RestartsKeepTheState → (config : Config) → GoesOnAfterAStop honest moment left seen config
+goes-on honest moment left seen reads restarts config = λ entry again at next one two are.
+    let all = lives-are honest moment left seen reads restarts config in
+    let is = all.each empty (opened honest moment left seen config again next two) (opened honest moment left seen config entry at one ∷ []) are in
     let behind = is.0.1 in
-    (subst (λ (d : Durable). IsResumed config d at one.start) behind.1 behind.2.0, (is.0.0, behind.2.1, is.0.2))
+    (subst (λ (d : Durable). IsResumed config d at one.start) behind.1 behind.2.0, (is.0.0, behind.2.1, is.0.2), all.goes_on empty entry again at next one two [] [] tt are)

@@ -1,9 +1,9 @@
 -- The calls of a gateway make lives.
 use Rattle.std.proofs.Common.{◌≡◌, ◌≢◌, ◌↔◌, Result, Ok, Err, Bool, false, true, ℕ, ◌+◌, ◌≤◌, List, [], ◌∷◌, ◌++◌, length, take, drop, arith, inr, refl, sym, ◌∙◌, ap, subst, append_assoc, length-append}
-use Rattle.std.specs.Prelude.{IfErr, IfOk, IsErrOf, MatchResult, OnErr, OnOk}
+use Rattle.std.specs.Prelude.{IfErr, IfOk, IsErrOf, IsTrue, MatchResult, OnErr, OnOk}
 use Rattle.std.proofs.lemmas.List.{append-nil, length-take-le, take-append-drop, take_at}
 use Rattle.std.proofs.Math.Seq.{take-append-add}
-use Rattle.packet.specs.Config.{Config}
+use Rattle.packet.specs.Config.{Config, is_config}
 use Rattle.disk_model.specs.Disk.{Files, HasCause, Leaves, LeavesNow, LeavesOnly}
 use Rattle.disk_model.proofs.Moments.{narrows, only_now}
 use Rattle.durable.specs.Entering.{Durable}
@@ -49,15 +49,16 @@ module _ {D : Type 0} (honest : D → Type 0) (moment : D → ℕ) (left : D →
   opening-refused (Err e) stopped damaged differs generations = (stopped.0, (stopped.1, record { damaged = damaged; differs = λ is. (differs is).2; generations = generations }))
 
   -- a gateway was opened
-  pub opening-rests : (r : Result (Kept D) (D × OpenFault)) (Q : D × OpenFault → Type 0) → honest entry → MatchResult r (λ g. honest entry ↔ honest g.disk) Q
+  pub opening-rests : (r : Result (Kept D) (D × OpenFault)) (Q : D × OpenFault → Type 0) → IsTrue (is_config config) → honest entry → MatchResult r (λ g. honest entry ↔ honest g.disk) Q
       → IfOk r (λ g. (d : Durable) × Recovers (seen entry) d × IsResumed config d at g.told.state × LeavesNow moment left g.disk (λ files. Recovers files d))
       → IfOk r (λ g. g.told.config ≡ config) → IfOk r (λ g. g.told.last ≡ 0) → IfOk r (λ g. g.told.held ≡ []) → IfOk r (λ g. g.fallen ≡ false)
       → IfOk r (λ g. RestsInLife honest moment left seen config entry at g [] [] g)
-  opening-rests (Err e) Q h on ok configured last none stands = tt
-  opening-rests (Ok g) Q h on ok configured last none stands =
+  opening-rests (Err e) Q valid h on ok configured last none stands = tt
+  opening-rests (Ok g) Q valid h on ok configured last none stands =
       let rests : IsAtRest honest g = record { stands = stands; is_honest = on.0 h; none = none } in
       record {
         opened = record {
+          valid = valid;
           was_honest = h;
           rests = rests;
           configured = configured;
@@ -146,6 +147,7 @@ module _ {D : Type 0} (honest : D → Type 0) (moment : D → ℕ) (left : D →
         is_life = (
           r.opened.was_honest,
           record {
+            valid = r.opened.valid;
             resumed = r.opened.resumed;
             answered = (
               subst (λ (c : Config). AreJudged c (events ++ more) all.judged) r.opened.configured all.are_judged,

@@ -1,6 +1,7 @@
 -- One life of a gateway after another, each opened over two files that the one before may have left.
-use Rattle.std.specs.Prelude.{◌≡◌, ◌≢◌, ◌⊎◌, ◌≤◌, ℕ, List, [], ◌∷◌, ◌++◌, length, take}
-use Rattle.packet.specs.Config.{Config}
+use Rattle.std.specs.Prelude.{◌≡◌, ◌≢◌, ◌⊎◌, ◌≤◌, ℕ, List, [], ◌∷◌, ◌++◌, IsTrue, length, map, take}
+use Rattle.packet.specs.Config.{Config, is_config}
+use Rattle.sessions.specs.Stilled.{at_moment}
 use Rattle.disk_model.specs.Disk.{Files, Leaves, LeavesNow, LeavesOnly}
 use Rattle.disk_model.specs.declared.disk.FileId.{FileId}
 use Rattle.durable.specs.Coding.{Heading}
@@ -66,6 +67,33 @@ LifeLeads config opened_at (Refused disk fault) old new = new ≡ old
 LifeLeads config opened_at (Opened work) old new = IsResumed config old opened_at work.start
     × MaySurvive config work.start work.events (length work.given) new
 
+-- the same text, rules and sessions, but that each session is as if its last packet had passed at this moment, which
+-- the clock shows
+abbrev pub again_at : ℕ → State → State
+again_at moment s = record s { sessions = map (at_moment moment) s.sessions; clock = moment }
+
+-- A gateway that was opened at this moment began with the state that the model had after some first of an earlier one's
+-- events, which hold each event whose answer that one gave out.
+pub record GoesOnFrom {D : Type 0} (config : Config) (one : Work D) (opened_at : ℕ)
+    (next : Work D) : Type 0 where
+  pub count : ℕ
+  pub answered : length one.given ≤ count
+  pub within : count ≤ length one.events
+  pub judged : List Judged
+  pub are_judged : AreJudged config (take count one.events) judged
+  pub is : next.start ≡ again_at opened_at (after config one.start judged)
+
+-- no gateway was opened in a life that went so
+abbrev pub OpenedNone : {D : Type 0} → Course D → Type 0
+OpenedNone (Stopped disk) = Unit {0}
+OpenedNone (Refused disk fault) = Unit {0}
+OpenedNone (Opened work) = ⊥
+
+-- nor in any of these lives
+abbrev pub AllOpenedNone : {D : Type 0} → List (Life D) → Type 0
+AllOpenedNone [] = Unit {0}
+AllOpenedNone (life ∷ earlier) = OpenedNone life.course × AllOpenedNone earlier
+
 -- These lives lead from what the files stood for first to this, one after the other.
 abbrev pub LivesLead : {D : Type 0} → Config → Durable → List (Life D) → Durable → Type 0
 LivesLead config first [] d = d ≡ first
@@ -83,7 +111,7 @@ AnswersAsModel config work = AreJudged config work.events work.judged
 
 -- What may become of a file's bytes: they are closed, and stay closed, whatever they are then; or they are open, and
 -- stay, perhaps with more behind them. So an empty file may get zeros. `file_disk::laws::openings_keep_files` says in
--- the same words what an opening of files does to them.
+-- the same words what an opening of files does to them, and `commands::laws::openings_find` joins both.
 abbrev pub MayBecome : List ℕ → List ℕ → Type 0
 MayBecome old new = ((¬ IsOpen old) × (¬ IsOpen new))
     ⊎ (IsOpen old × ((more : List ℕ) × (new ≡ old ++ more)))
@@ -114,8 +142,10 @@ module _ {D : Type 0} (honest : D → Type 0) (moment : D → ℕ) (left : D →
     pub differs : fault ≡ open_fault.ConfigDiffers → ¬ IsConfigured config (seen entry)
     pub generations : fault ≡ open_fault.Generations → IsLastFormer config (seen entry)
 
-  -- the gateway that it gives: `ok` of `open`, and of the calls from then on `any_moment` or `ok`, and `configured`
+  -- the gateway that it gives: `ok` of `open`, and of the calls from then on `any_moment` or `ok`, and `configured`;
+  -- `valid` says what `Bounds::facts` does
   pub record WorkGoes (entry : D) (opened_at : ℕ) (work : Work D) : Type 0 where
+    pub valid : IsTrue (is_config config)
     pub resumed : (d : Durable) × Recovers (seen entry) d × IsResumed config d opened_at work.start
     pub answered : AnswersAsModel config work
     pub safe : (files : Files) → left work.disk work.since files
@@ -162,14 +192,27 @@ module _ {D : Type 0} (honest : D → Type 0) (moment : D → ℕ) (left : D →
       × AnswersAsModel config work
       × IsSoundState config work.start
 
+  -- a life in which a gateway was opened
+  abbrev pub opened : D → ℕ → Work D → Life D
+  opened entry opened_at work = record {
+    disk = entry;
+    opened_at = opened_at;
+    course = Opened work;
+  }
+
   -- ---- the theorem
 
-  -- Of any lives, the latest first, with one configuration: each is as the model says after the earlier ones; and
-  -- whatever the next opening may find stands for what they lead to.
+  -- Of any lives, the latest first, with one configuration: each is as the model says after the earlier ones; each
+  -- gateway goes on from the one before; and whatever the next opening may find stands for what they lead to.
   pub record LivesAreTheModels : Type 0 where
     pub each : (first : Durable) (life : Life D) (earlier : List (Life D))
         → AreLives first (life ∷ earlier)
         → IsAsModel first earlier life.opened_at life.course
+    -- between the two, openings may have been stopped or refused
+    pub goes_on : (first : Durable) (entry again : D) (at next : ℕ) (one two : Work D)
+        (between earlier : List (Life D)) → AllOpenedNone between
+        → AreLives first (opened again next two ∷ (between ++ (opened entry at one ∷ earlier)))
+        → GoesOnFrom config one next two
     pub stood : (first : Durable) (lives : List (Life D)) (files : Files) → AreLives first lives
         → NextFinds first lives files
         → (d : Durable) × Recovers files d × IsConfigured config files
@@ -183,19 +226,12 @@ module _ {D : Type 0} (honest : D → Type 0) (moment : D → ℕ) (left : D →
     pub found : (files : Files) (file : FileId) (h : Heading) (d : Durable) (end : ℕ)
         → IsActive files file h d end → h.config ≡ config → LivesLeave d [] files
 
-  -- a life in which a gateway was opened
-  abbrev pub opened : D → ℕ → Work D → Life D
-  opened entry opened_at work = record {
-    disk = entry;
-    opened_at = opened_at;
-    course = Opened work;
-  }
-
   -- The plainest case: a gateway is opened over files of which none is open, is stopped, and is opened again. It begins
-  -- again from what may survive, which holds each event whose answer was given out.
+  -- again from what may survive, which holds each event whose answer was given out, and so goes on from the first.
   abbrev pub GoesOnAfterAStop : Type 0
   GoesOnAfterAStop = (entry again : D) (at next : ℕ) (one two : Work D)
       → AreLives empty (opened again next two ∷ opened entry at one ∷ [])
       → IsResumed config empty at one.start
       × ((d : Durable) × MaySurvive config one.start one.events (length one.given) d
       × IsResumed config d next two.start)
+      × GoesOnFrom config one next two

@@ -1,6 +1,6 @@
 -- That the calls of a gateway make lives, as `specs/Lives` defines them.
-use Rattle.std.specs.Prelude.{◌≡◌, ℕ, List, [], ◌∷◌, ◌++◌}
-use Rattle.packet.specs.Config.{Config}
+use Rattle.std.specs.Prelude.{◌≡◌, ℕ, List, [], ◌∷◌, ◌++◌, IsTrue}
+use Rattle.packet.specs.Config.{Config, is_config}
 use Rattle.disk_model.specs.Disk.{Files}
 use Rattle.durable.specs.Entering.{Durable}
 use Rattle.durable.specs.Recovery.{Recovers}
@@ -19,6 +19,7 @@ module _ {D : Type 0} (honest : D → Type 0) (moment : D → ℕ) (left : D →
   -- A gateway as `open` gives it, over this disk and at this moment.
   pub record IsOpened (config : Config) (entry : D) (opened_at : ℕ)
       (gateway : Kept D) : Type 0 where
+    pub valid : IsTrue (is_config config)
     pub was_honest : honest entry
     pub rests : IsAtRest honest gateway
     pub configured : gateway.told.config ≡ config
@@ -90,6 +91,13 @@ module _ {D : Type 0} (honest : D → Type 0) (moment : D → ℕ) (left : D →
     pub stands : Stands honest moment left failed rested now more out
     pub events_are : events ≡ earlier ++ more
     pub given_are : given ≡ answered ++ out
+
+  -- a gateway that rests in its life is in it
+  abbrev pub RestingIsLiving : Kept D → Type 0
+  RestingIsLiving now = (config : Config) (entry : D) (opened_at : ℕ) (begun : Kept D)
+      (events : List Event) (given : List (ℕ × Answer))
+      → RestsInLife honest moment left seen config entry opened_at begun events given now
+      → IsInLife config entry opened_at begun events given now
 
   module _ (old new : Kept D) where
     -- Whatever life the gateway is in, a stop within the call that leads from the one to the other is its end, with the

@@ -1,20 +1,14 @@
 -- Which state a gateway begins with that is opened again: text, rules and sessions. What the model says of mappings, of
 -- hosts and of the time that a session has left follows from these.
-use Rattle.std.specs.Prelude.{◌≡◌, ◌≤◌, ℕ, List, IsTrue, length, map, take}
+use Rattle.std.specs.Prelude.{◌≡◌, ◌≤◌, ℕ, List, IsTrue, length, take}
 use Rattle.packet.specs.Config.{Config, is_config}
-use Rattle.sessions.specs.Stilled.{at_moment}
 use Rattle.durable.specs.Entering.{Durable}
 use Rattle.machine.specs.Judged.{Judged, AreJudged}
 use Rattle.machine.specs.Machine.{State, after}
 use Rattle.machine.specs.Noted.{IsResumed, lasting}
 use Rattle.machine.specs.Sound.{IsSoundState}
 use Rattle.machine.specs.declared.event.Event.{Event}
-use Rattle.gateway.specs.Lives.{MaySurvive}
-
--- the same text, rules and sessions, but that each session is as if its last packet had passed at this moment, which
--- the clock shows
-abbrev pub again_at : ℕ → State → State
-again_at moment s = record s { sessions = map (at_moment moment) s.sessions; clock = moment }
+use Rattle.gateway.specs.Lives.{MaySurvive, again_at}
 
 pub record RestartsKeepTheState : Type 0 where
   -- of what is stored there is one state to begin with

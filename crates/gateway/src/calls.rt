@@ -11,7 +11,6 @@
 //! - `run`: `running::take_all` does these calls for a list of events.
 ghost use Rattle.std.specs.Prelude.{◌≡◌, ◌≢◌, ◌↔◌, ◌⊎◌, ◌+◌, ◌-◌, ◌^◌, ◌<◌, ◌≤◌, ◌++◌, ◌∷◌, [], ℕ, List, IfOk, IfErr, IfNone, IfSome, OnOk, OnErr, OnSome, IsOk, IsErrOf, MatchResult, IsTrue, length, true, false};
 ghost use Rattle.packet.specs.Config.{is_config};
-ghost use Rattle.packet.specs.Laws.{AreBytes};
 ghost use Rattle.disk_model.specs.Disk.{Leaves, LeavesNow, LeavesOnly, Looks, Same, Called, Grew, HasCause};
 ghost use Rattle.durable.specs.Coding.{Entry, body_bytes};
 ghost use Rattle.durable.specs.Entering.{Durable, IsDurable};
@@ -401,7 +400,7 @@ impl<D: Disk + Drop> Gateway<D> {
         }
         self.core.facts();
         events_are_judged_once();
-        bytes_of_event_fit(&event);
+        event.facts();
         match self.core.step_noted(event, &mut self.pending) {
             Ok(answer) => {
                 self.last += 1;
@@ -732,20 +731,6 @@ impl<D: Disk + Drop> Gateway<D> {
         }
     }
 }
-
-// The proof of `take_whole` needs the range of the bytes that an event brings.
-fn bytes_of_event_fit(event: &Event)
-    ensures { (iface : Iface) (packet : List ℕ) → event.now.what ≡ Packet iface packet
-        → AreBytes packet }
-{
-    if let What::Packet(_, packet) = &event.what {
-        bytes_fit(packet.as_slice());
-    }
-}
-
-fn bytes_fit(bytes: &[u8])
-    ensures { AreBytes bytes.now }
-{}
 
 // A number of this type has 64 bits.
 fn fits(number: u64)

@@ -8,6 +8,7 @@
 //! - `open_in_lives`, `run_in_lives`, `offer_in_lives`, `take_packet_in_lives`, `take_event_in_lives`,
 //!   `flush_in_lives`, `settle_in_lives`, `compact_in_lives`: the calls of `Gateway`, each with the clauses that say
 //!   that it makes such lives
+//! - `rests_in_lives`: from `open` and `run` on to the others
 //! - `calls_are_lives`: so do the calls of `running`, which make these
 ghost use Rattle.std.specs.Prelude.{◌≡◌, ◌≢◌, ◌≤◌, ◌++◌, ◌∷◌, [], List, length, IfErr, IfOk, MatchResult, OnErr, OnOk, true};
 ghost use Rattle.packet.specs.Config.{Config};
@@ -15,7 +16,7 @@ ghost use Rattle.machine.specs.declared.event.Event.{Event};
 ghost use Rattle.machine.specs.declared.event.What.TheVariants.{Packet};
 ghost use Rattle.gateway.specs.Given.{answer_given, given_by, handed};
 ghost use Rattle.gateway.specs.Lives.{GoesOnAfterAStop, IsLife, LivesAreTheModels, Refused, Stopped};
-ghost use Rattle.gateway.specs.Living.{CallsAreLives, EndsLife, EndsTaking, GoesOnInLife, RestsAgain, RestsInLife, RunsInLife, StaysInLife, StopsInLife, StopsTaking, TakesAllInLife, TakesInLife};
+ghost use Rattle.gateway.specs.Living.{CallsAreLives, EndsLife, EndsTaking, GoesOnInLife, RestsAgain, RestingIsLiving, RestsInLife, RunsInLife, StaysInLife, StopsInLife, StopsTaking, TakesAllInLife, TakesInLife};
 ghost use Rattle.gateway.specs.Restarts.{RestartsKeepTheState};
 ghost use Rattle.gateway.specs.Standing.{CallsStandForTheModel};
 ghost use Rattle.gateway.specs.Taking.{IsNoPacket};
@@ -42,21 +43,26 @@ pub fn calls_stand_for_the_model()
 /// over what an opening of those may have made of them (`NextFinds`). Each was stopped at any moment, within any call, its
 /// opening too. Then no opening answers `Damaged` or `ConfigDiffers`, and `Generations` only if the files may be of a
 /// former version and of the last generation. Each gateway begins again from what must survive of the model's state after
-/// some first events of the earlier lives, each in its turn, and these hold every event whose answer was given out. Every
+/// some first events of the earlier lives, each in its turn, and these hold every event whose answer was given out: it
+/// goes on from the gateway before it (`GoesOnFrom`), with the state of the model after these, but for the moments. Every
 /// answer that it gives out is the model's from there on. Files of version 1 may be the first.
 ///
 /// What a life is (`IsLife` of `specs/Lives`) is what the clauses of the calls say: the functions below, and
 /// `socket_edge::laws::runs_are_lives`, are proved to make such ones.
 pub fn lives_are_the_models<D: Disk>(_: &D)
     ensures { (config : Config) → LivesAreTheModels D.honest D.moment D.left D.seen config }
-{}
+{
+    restarts_keep_the_state();
+}
 
 /// The plainest case: a gateway is opened over files of which none is open and is stopped at any moment, and another
 /// one is opened. It begins again from what must survive of the model's state after some first events, which hold every
-/// event whose answer was given out.
+/// event whose answer was given out, and goes on from the first one with that state.
 pub fn goes_on_after_a_stop<D: Disk>(_: &D)
     ensures { (config : Config) → GoesOnAfterAStop D.honest D.moment D.left D.seen config }
-{}
+{
+    restarts_keep_the_state();
+}
 
 /// What is stored settles the state that a gateway begins with: the text, the rules that are in force, and the sessions,
 /// from which mappings, hosts and timers follow. Of a life of which something may survive, that is the state that the
@@ -92,7 +98,16 @@ pub fn open_in_lives<D: Disk + Drop>(
     ensures opened { D.honest disk → IfOk result (λ g.
         RestsInLife D.honest D.moment D.left D.seen bounds disk moment g [] [] g) }
 {
+    bounds.facts();
     Gateway::open(alloc, disk, bounds, moment)
+}
+
+/// A gateway that rests in its life, as one that was opened or has taken a run of events does, is in its life, as the
+/// other calls ask. It does nothing but carry this fact.
+pub fn rests_in_lives<D: Disk + Drop>(gateway: &Gateway<D>)
+    ensures { RestingIsLiving D.honest D.moment D.left D.seen D.failed gateway.now }
+{
+    gateway.has_fallen();
 }
 
 /// Takes events (`Gateway::run`), for a gateway that rests in its life. Stopped within it, or after it, that is a life.

@@ -1,6 +1,9 @@
 //! What comes in and what goes out: events, and their answers.
-ghost use Rattle.std.specs.Prelude.{◌≡◌};
+ghost use Rattle.std.specs.Prelude.{◌≡◌, ℕ, List};
+ghost use Rattle.packet.specs.Laws.{AreBytes};
+ghost use Rattle.packet.specs.declared.endpoint.Iface.{Iface};
 ghost use Rattle.machine.specs.Fates.{answer_of};
+ghost use Rattle.machine.specs.declared.event.What.TheVariants.{Packet};
 
 use crate::bytes::Bytes;
 use packet::Iface;
@@ -24,6 +27,23 @@ pub struct Event {
     /// What it brings.
     pub what: What,
 }
+
+impl Event {
+    /// What every event keeps: a packet that it brings is bytes, as the laws of packets ask. It does nothing but carry
+    /// this.
+    pub fn facts(&self)
+        ensures bytes { (iface : Iface) (packet : List ℕ) → self.now.what ≡ Packet iface packet
+            → AreBytes packet }
+    {
+        if let What::Packet(_, packet) = &self.what {
+            bytes_fit(packet.as_slice());
+        }
+    }
+}
+
+fn bytes_fit(bytes: &[u8])
+    ensures { AreBytes bytes.now }
+{}
 
 /// What an event is answered.
 #[derive(Drop)]

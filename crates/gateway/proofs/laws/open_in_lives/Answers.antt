@@ -11,4 +11,4 @@ returns-clause-refused g c = λ h. opening-refused g.D.Disk.honest g.D.Disk.mome
 
 pub returns-clause-opened : goal.returns-clause-opened
 returns-clause-opened g c = λ h. opening-rests g.D.Disk.honest g.D.Disk.moment g.D.Disk.left g.D.Disk.seen c.args.bounds c.args.disk c.args.moment
-    c.open.result _ h c.open.ensures.honest (c.open.ensures.ok h) c.open.ensures.config c.open.ensures.last c.open.ensures.none c.open.ensures.stands
+    c.open.result _ c.facts.ensures.valid h c.open.ensures.honest (c.open.ensures.ok h) c.open.ensures.config c.open.ensures.last c.open.ensures.none c.open.ensures.stands
