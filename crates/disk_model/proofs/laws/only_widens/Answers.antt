@@ -1,8 +1,29 @@
-use Rattle.std.proofs.Common.{⊎_elim}
+use Rattle.std.proofs.Common.{ℕ, zero, suc, ◌≤◌, ⊎_elim, ap, arith, subst}
+use Rattle.disk_model.specs.Disk.{Files}
+use Rattle.disk_model.specs.Laws.{AreCalls, IsCall}
 use Rattle.disk_model.proofs.laws.only_widens.Goals as goal
+
+module _ {D : Type 0} (honest : D → Type 0) (moment : D → ℕ) (left : D → ℕ → Files → Type 0) where
+  widens : (old new : D) (t : ℕ) (files : Files) → IsCall honest moment left old new → t ≤ moment old → left old t files → left new t files
+  widens old new t files call le is = ⊎_elim (λ looks. looks.keeps t files le is) (λ writes. writes.3.keeps t files le is) call
+
+  rises : (n : ℕ) (old new : D) → AreCalls honest moment left n old new → moment old ≤ moment new
+  rises zero old new calls = omega (arith, ap moment calls)
+  rises (suc n) old new calls =
+      let before = rises n old calls.0 calls.1 in
+      ⊎_elim (λ looks. omega (arith, before, looks.later)) (λ writes. omega (arith, before, writes.3.later)) calls.2
+
+  keeps : (n : ℕ) (old new : D) (t : ℕ) (files : Files) → AreCalls honest moment left n old new → t ≤ moment old → left old t files → left new t files
+  keeps zero old new t files calls le is = subst (λ (d : D). left d t files) calls is
+  keeps (suc n) old new t files calls le is =
+      let before = rises n old calls.0 calls.1 in
+      widens calls.0 new t files calls.2 (omega (arith, le, before)) (keeps n old calls.0 t files calls.1 le is)
 
 pub returns : goal.returns
 returns g c = record {
-  with_calls = λ old new t files call le left. ⊎_elim (λ looks. looks.keeps t files le left) (λ writes. writes.3.keeps t files le left) call;
-  with_moments = λ disk s t files honest le left. g.met.D.Disk.earlier disk s t files le left;
+  with_calls = widens g.D.Disk.honest g.D.Disk.moment g.D.Disk.left;
+  with_moments = g.met.D.Disk.earlier;
+  within = λ m n old mid new files first then now.
+      let le = rises g.D.Disk.honest g.D.Disk.moment g.D.Disk.left m old mid first in
+      keeps g.D.Disk.honest g.D.Disk.moment g.D.Disk.left n mid new (g.D.Disk.moment old) files then le (g.met.D.Disk.earlier mid (g.D.Disk.moment old) (g.D.Disk.moment mid) files le now);
 }
