@@ -5,7 +5,6 @@ ghost use Rattle.std.specs.Prelude.{◌≡◌, [], List, IfErr, IfOk, MatchResul
 ghost use Rattle.packet.specs.Config.{Config};
 ghost use Rattle.disk_model.specs.Disk.{LeavesNow};
 ghost use Rattle.durable.specs.Entering.{Durable};
-ghost use Rattle.file_disk.specs.Filed.{Filed};
 ghost use Rattle.gateway.specs.Lives.{AreLives, IsLife, Life, NextFinds, Refused, Stopped};
 ghost use Rattle.gateway.specs.Living.{RestsInLife};
 ghost use Rattle.snapshot.specs.declared.fault.OpenFault.{OpenFault};
@@ -23,10 +22,10 @@ use packet::Bounds;
 use std::alloc::Global;
 
 /// Files that an opening has prepared, or has left that failed, are what the next gateway may find, if they were before
-/// it: what a crash leaves of a disk that was opened is as `open_over_in_lives` asks of it, behind earlier lives.
+/// it: what a crash leaves of a disk that was opened is as `open_over_in_lives` asks of it, behind earlier lives. Files of
+/// which no earlier life is known are found as they read.
 pub fn openings_find<F: DiskFile>(file: &F)
-    ensures { (config : Config) (first : Durable) (earlier : List (Life (Filed F)))
-        → OpeningsFind F.honest F.holds F.leaves config first earlier F.lacks_space }
+    ensures { (config : Config) → OpeningsFind F.honest F.holds F.leaves config F.lacks_space }
 {
     openings_keep_files(file);
 }

@@ -130,6 +130,16 @@ module _ {D : Type 0} (honest : D → Type 0) (moment : D → ℕ) (left : D →
   led-before (life ∷ between) lives d none led =
       led-before between lives d none.1 (subst (LivesLead config first (between ++ lives)) (sym (led-same life.opened_at life.course led.0 d none.0 led.2)) led.1)
 
+  led-first : (lives : List (Life D)) (d : Durable) → AllOpenedNone lives → LivesLead config first lives d → d ≡ first
+  led-first [] d none led = led
+  led-first (life ∷ lives) d none led = led-same life.opened_at life.course led.0 d none.0 led.2 ∙ led-first lives led.0 none.1 led.1
+
+  pub begins-first : (entry : D) (at : ℕ) (one : Work D) (earlier : List (Life D)) → AllOpenedNone earlier
+      → AreLives honest moment left seen config first (opened honest moment left seen config entry at one ∷ earlier) → IsResumed config first at one.start
+  begins-first entry at one earlier none are =
+      let is = is-as-model earlier entry at (Opened one) are.0.0 are.2 are.1 are.0.1 in
+      subst (λ (d : Durable). IsResumed config d at one.start) (led-first earlier is.0.0 none is.0.1) is.0.2
+
   are-before : (between lives : List (Life D)) → AreLives honest moment left seen config first (between ++ lives) → AreLives honest moment left seen config first lives
   are-before [] lives are = are
   are-before (life ∷ between) lives are = are-before between lives are.2
@@ -167,6 +177,7 @@ pub lives-are : {D : Type 0} (honest : D → Type 0) (moment : D → ℕ) (left 
     → ((disk : D) → honest disk → left disk (moment disk) (seen disk)) → RestartsKeepTheState → (config : Config) → LivesAreTheModels honest moment left seen config
 lives-are honest moment left seen reads restarts config = record {
   each = λ first life earlier are. is-as-model honest moment left seen reads config first earlier life.disk life.opened_at life.course are.0.0 are.2 are.1 are.0.1;
+  begins = begins-first honest moment left seen reads config;
   goes_on = λ first. goes-from honest moment left seen reads config first restarts;
   as_left = λ first lives files was. (files, was, λ file. stays (files file));
   new = new-files config;
@@ -181,4 +192,4 @@ goes-on honest moment left seen reads restarts config = λ entry again at next o
     let all = lives-are honest moment left seen reads restarts config in
     let is = all.each empty (opened honest moment left seen config again next two) (opened honest moment left seen config entry at one ∷ []) are in
     let behind = is.0.1 in
-    (subst (λ (d : Durable). IsResumed config d at one.start) behind.1 behind.2.0, (is.0.0, behind.2.1, is.0.2), all.goes_on empty entry again at next one two [] [] tt are)
+    (subst (λ (d : Durable). IsResumed config d at one.start) behind.1 behind.2.0, (is.0.0, behind.2.1, is.0.2), all.goes_on empty entry again at next one two [] [] tt are, are.2.0.1.answered, are.0.1.answered)

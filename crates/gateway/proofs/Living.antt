@@ -17,15 +17,15 @@ use Rattle.machine.proofs.Judging.{AreJudged-append, AreJudged-length}
 use Rattle.snapshot.specs.Store.{IsLastFormer, RecoversEither}
 use Rattle.snapshot.specs.declared.fault.OpenFault.{OpenFault}
 use Rattle.snapshot.specs.declared.fault.OpenFault.TheVariants as open_fault
+use Rattle.gateway.specs.Given.{handed}
 use Rattle.gateway.specs.Kept.{Kept, IsAtRest, IsSafe}
-use Rattle.gateway.specs.Syncing.{end_of}
 use Rattle.gateway.specs.Told.{Told, TookAll, TookFirst}
 use Rattle.gateway.specs.Running.{BreaksOff, CarriesOn, Ends, SafeThrough, Stands, Stops, StopsWithin}
 use Rattle.gateway.specs.declared.fault.GatewayFault.{GatewayFault}
 use Rattle.gateway.specs.declared.fault.GatewayFault.TheVariants as fault
-use Rattle.gateway.specs.Lives.{Course, Stopped, Refused, IsLife}
+use Rattle.gateway.specs.Lives.{AreLives, Course, IsAsModel, Life, LivesAreTheModels, NextFinds, Stopped, Refused, IsLife}
 use Rattle.gateway.specs.Living.{IsLived, RestsInLife, IsInLife, RunsInLife, RestsAgain, StaysInLife, StopsInLife, StopsTaking, GoesOnInLife, TakesAllInLife, EndsLife, EndsTaking, CallsAreLives}
-use Rattle.gateway.proofs.Runs.{compact-stopped, compacted, counted, either, ended, flush-stopped, flushed, length-numbered, stands-still, true-false}
+use Rattle.gateway.proofs.Runs.{compact-stopped, compacted, counted, either, ended, flush-stopped, flushed, length-numbered, offered, stands-still, true-false}
 use Rattle.gateway.proofs.Taking.{after-append, answers-append, length-answers, numbered-append, took_none}
 
 -- ---- an opening, by its clauses
@@ -47,6 +47,12 @@ module _ {D : Type 0} (honest : D → Type 0) (moment : D → ℕ) (left : D →
       → IfErr r (λ e. Live (Refused e.0 e.1))
   opening-refused (Ok g) stopped damaged differs generations = tt
   opening-refused (Err e) stopped damaged differs generations = (stopped.0, (stopped.1, record { damaged = damaged; differs = λ is. (differs is).2; generations = generations }))
+
+  pub refused-behind : (r : Result (Kept D) (D × OpenFault)) → IfErr r (λ e. Live (Refused e.0 e.1)) → LivesAreTheModels honest moment left seen config
+      → (first : Durable) (earlier : List (Life D)) → AreLives honest moment left seen config first earlier → LeavesNow moment left entry (NextFinds honest moment left seen config first earlier)
+      → IfErr r (λ e. IsAsModel honest moment left seen config first earlier at (Refused e.0 e.1))
+  refused-behind (Ok g) refused lives first earlier are before = tt
+  refused-behind (Err e) refused lives first earlier are before = lives.each first (record { disk = entry; opened_at = at; course = Refused e.0 e.1 }) earlier (refused, before, are)
 
   -- a gateway was opened
   pub opening-rests : (r : Result (Kept D) (D × OpenFault)) (Q : D × OpenFault → Type 0) → IsTrue (is_config config) → honest entry → MatchResult r (λ g. honest entry ↔ honest g.disk) Q
@@ -433,11 +439,6 @@ module _ {D : Type 0} (honest : D → Type 0) (moment : D → ℕ) (left : D →
     given_are = ap (λ (l : List (ℕ × Answer)). l ++ handed) is.given_are ∙ append_assoc is.answered is.out handed;
   }
 
-  -- after one that takes an event
-  pub takes-in-life : (event : Event) (handed : List (ℕ × Answer)) → ((start : Kept D) (events : List Event) (out : List (ℕ × Answer)) → Stands honest moment left failed start old events out
-      → Stands honest moment left failed start new (events ++ event ∷ []) (out ++ handed)) → TakesAllInLife honest moment left seen failed old new (event ∷ []) handed
-  takes-in-life event handed on = takes-all honest moment left seen failed earlier old new (event ∷ []) handed on
-
   -- within one that makes no call of the disk
   pub stops-where-it-was : new.disk ≡ old.disk → EndsLife honest moment left seen failed old old → StopsInLife honest moment left seen failed old new
   stops-where-it-was same ends = λ config entry at begun events given is.
@@ -446,19 +447,14 @@ module _ {D : Type 0} (honest : D → Type 0) (moment : D → ℕ) (left : D →
   -- a flush or a settlement that ended well
   module _ (was : honest new.disk → honest old.disk) (stays : new.fallen ≡ false → honest old.disk → honest new.disk) (conf : old.fallen ≡ false → honest old.disk → LeavesOnly moment left old.disk new.disk (IsConfigured old.told.config)) where
     module _ (any : old.fallen ≡ false → honest old.disk → (d : Durable) → Recovers (seen old.disk) d → LeavesOnly moment left old.disk new.disk (RecoversEither d (lasting old.told.state))) where
-      pub settled-in-life : {T : Type 0} (r : Result T GatewayFault) → (honest old.disk → OnOk (end_of r) (LeavesNow moment left new.disk (λ files. Recovers files (lasting old.told.state))))
-          → OnOk (end_of r) (new.told ≡ record old.told { held = [] }) → IsErrOf (end_of r) fault.Device ↔ ((old.fallen ≡ false) × (new.fallen ≡ true)) → OnOk (end_of r) (failed new.disk ≡ failed old.disk)
+      pub settled-in-life : (r : Result (Unit {0}) GatewayFault) → (honest old.disk → OnOk r (LeavesNow moment left new.disk (λ files. Recovers files (lasting old.told.state))))
+          → OnOk r (new.told ≡ record old.told { held = [] }) → IsErrOf r fault.Device ↔ ((old.fallen ≡ false) × (new.fallen ≡ true)) → OnOk r (failed new.disk ≡ failed old.disk)
           → OnOk r (GoesOnInLife honest moment left seen failed old new old.told.held)
       settled-in-life (Err e) ok none fell no_failure = tt
       settled-in-life (Ok a) ok none fell no_failure = goes-on-in-life old.told.held (λ start events out s.
-          flushed honest moment left seen failed reads earlier start old events out s new was stays conf any ok none (stands-still tt fault.Device new.fallen fell s.stands) no_failure)
+          flushed honest moment left seen failed reads earlier start old events out s new was stays conf any ok none (stands-still a fault.Device new.fallen fell s.stands) no_failure)
 
-      pub flushed-in-life : {T : Type 0} (r : Result T GatewayFault) (items : T → List (ℕ × Answer)) → IfOk r (λ a. items a ≡ old.told.held)
-          → OnOk r (GoesOnInLife honest moment left seen failed old new old.told.held) → IfOk r (λ a. GoesOnInLife honest moment left seen failed old new (items a))
-      flushed-in-life (Err e) items are on = tt
-      flushed-in-life (Ok a) items are on = subst (λ (l : List (ℕ × Answer)). GoesOnInLife honest moment left seen failed old new l) (sym are) on
-
-      pub flush-ends : {T : Type 0} (r : Result T GatewayFault) → OnErr (end_of r) (new.told ≡ old.told) → OnErr r (EndsLife honest moment left seen failed old new)
+      pub flush-ends : (r : Result (Unit {0}) GatewayFault) → OnErr r (new.told ≡ old.told) → OnErr r (EndsLife honest moment left seen failed old new)
       flush-ends (Ok a) same = tt
       flush-ends (Err e) same = ends-life (λ start events out s. flush-stopped honest moment left seen failed reads earlier start old events out s new was stays conf any same)
 
@@ -487,6 +483,24 @@ calls-are honest moment left seen failed reads earlier = record {
       (subst (λ (l : List (ℕ × Answer)). RestsInLife honest moment left seen config entry at begun (is.earlier ++ is.more) l now) (sym is.given_are)
       (rests-again honest moment left seen config entry at begun is.earlier is.answered is.rested is.rests now is.more is.out s.ran.took
       (record { stands = s.stands; is_honest = s.ran.stays_honest s.stands is.rests.rests.is_honest; none = none })));
+  takes = λ old new event given config sound takes disk fallen. (
+    stops-where-it-was honest moment left seen failed reads earlier old new disk (ends-life honest moment left seen failed reads earlier old old (λ start events out s. ended honest moment left seen failed reads earlier start old events out s)),
+    takes-all honest moment left seen failed earlier old new (event ∷ []) (handed given)
+        (λ start events out s. offered honest moment left seen failed reads earlier start old events out s new event given config sound disk fallen takes.took takes.now),
+  );
+  syncs = λ called old new end s. (
+    stops-in-life honest moment left seen failed reads earlier old new s.any_moment s.configured,
+    settled-in-life honest moment left seen failed reads earlier old new s.was_honest s.stays_honest s.configured s.any_moment end s.ok s.none s.fell s.no_failure,
+    flush-ends honest moment left seen failed reads earlier old new s.was_honest s.stays_honest s.configured s.any_moment end s.err,
+  );
+  carries = λ old new taken out on. takes-all honest moment left seen failed earlier old new taken out (λ start events before s. on before start events s);
+  safe = λ old new safe config entry at begun events given is.
+      let s = is.stands in
+      let both = safe is.out is.rested is.more s is.rests.rests in
+      as-it-is honest moment left seen failed reads earlier old new config entry at begun events given old.disk new.disk is
+      (stopped-in honest moment left seen config entry at begun is.earlier is.answered is.rested is.rests is.more s.ran.took.judged is.out old.told.held old.disk new.disk s.ran.took.are_judged
+      (since-then honest moment left seen config entry at begun is.earlier is.answered is.rested is.rests old is.more is.out s.ran.took)
+      (λ files since. (both.0.each files since).2) (λ files since. (both.1.each files since).2));
   stands = λ config entry at begun rested now events more given out rests s.
       record { earlier = events; answered = given; rested = rested; rests = rests; more = more; out = out; stands = s; events_are = refl; given_are = refl };
   within = λ config entry at begun rested old new events more given out rests s safe.

@@ -208,7 +208,10 @@ module _ {D : Type 0} (honest : D → Type 0) (moment : D → ℕ) (left : D →
     pub each : (first : Durable) (life : Life D) (earlier : List (Life D))
         → AreLives first (life ∷ earlier)
         → IsAsModel first earlier life.opened_at life.course
-    -- between the two, openings may have been stopped or refused
+    -- the first one begins with what the files stood for; between two, openings may have been stopped or refused
+    pub begins : (first : Durable) (entry : D) (at : ℕ) (one : Work D) (earlier : List (Life D))
+        → AllOpenedNone earlier → AreLives first (opened entry at one ∷ earlier)
+        → IsResumed config first at one.start
     pub goes_on : (first : Durable) (entry again : D) (at next : ℕ) (one two : Work D)
         (between earlier : List (Life D)) → AllOpenedNone between
         → AreLives first (opened again next two ∷ (between ++ (opened entry at one ∷ earlier)))
@@ -227,11 +230,12 @@ module _ {D : Type 0} (honest : D → Type 0) (moment : D → ℕ) (left : D →
         → IsActive files file h d end → h.config ≡ config → LivesLeave d [] files
 
   -- The plainest case: a gateway is opened over files of which none is open, is stopped, and is opened again. It begins
-  -- again from what may survive, which holds each event whose answer was given out, and so goes on from the first.
+  -- again from what may survive, which holds each event whose answer was given out, and so goes on from the first. Both
+  -- answer as the model.
   abbrev pub GoesOnAfterAStop : Type 0
   GoesOnAfterAStop = (entry again : D) (at next : ℕ) (one two : Work D)
       → AreLives empty (opened again next two ∷ opened entry at one ∷ [])
       → IsResumed config empty at one.start
       × ((d : Durable) × MaySurvive config one.start one.events (length one.given) d
       × IsResumed config d next two.start)
-      × GoesOnFrom config one next two
+      × GoesOnFrom config one next two × AnswersAsModel config one × AnswersAsModel config two

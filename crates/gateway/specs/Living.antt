@@ -1,5 +1,5 @@
 -- That the calls of a gateway make lives, as `specs/Lives` defines them.
-use Rattle.std.specs.Prelude.{◌≡◌, ℕ, List, [], ◌∷◌, ◌++◌, IsTrue}
+use Rattle.std.specs.Prelude.{◌≡◌, ℕ, List, [], ◌∷◌, ◌++◌, IsTrue, OnErr, OnOk, Result}
 use Rattle.packet.specs.Config.{Config, is_config}
 use Rattle.disk_model.specs.Disk.{Files}
 use Rattle.durable.specs.Entering.{Durable}
@@ -7,12 +7,18 @@ use Rattle.durable.specs.Recovery.{Recovers}
 use Rattle.machine.specs.Judged.{Judged, AreJudged}
 use Rattle.machine.specs.Machine.{State}
 use Rattle.machine.specs.Noted.{IsResumed}
+use Rattle.machine.specs.Sound.{IsSoundState}
 use Rattle.machine.specs.declared.event.Answer.{Answer}
 use Rattle.machine.specs.declared.event.Event.{Event}
+use Rattle.gateway.specs.Given.{handed}
 use Rattle.gateway.specs.Kept.{Kept, IsAtRest}
 use Rattle.gateway.specs.Lives.{Life, Opened, IsLife}
-use Rattle.gateway.specs.Running.{Ends, SafeThrough, SafeWithin, Stands}
+use Rattle.gateway.specs.Running.{CarriesOn, Ends, SafeThrough, SafeWithin, Stands}
+use Rattle.gateway.specs.Syncing.{Syncs}
+use Rattle.gateway.specs.Taking.{Takes}
 use Rattle.gateway.specs.Told.{TookAll}
+use Rattle.gateway.specs.declared.fault.GatewayFault.{GatewayFault}
+use Rattle.gateway.specs.declared.given.Given.{Given}
 
 module _ {D : Type 0} (honest : D → Type 0) (moment : D → ℕ) (left : D → ℕ → Files → Type 0)
     (seen : D → Files) where
@@ -109,8 +115,8 @@ module _ {D : Type 0} (honest : D → Type 0) (moment : D → ℕ) (left : D →
         → IsLived honest moment left seen config entry opened_at begun events given old.disk
         new.disk
 
-    -- Calls take these events. Whatever life the gateway is in, and whatever it holds, a stop within them is its end,
-    -- with the answers that were given out before them.
+    -- The call takes these events. Whatever life the gateway is in, and whatever it holds, a stop within it is its end,
+    -- with the answers that were given out before it.
     abbrev pub StopsTaking : List Event → Type 0
     StopsTaking taken = (config : Config) (entry : D) (opened_at : ℕ) (begun : Kept D)
         (events : List Event) (given : List (ℕ × Answer))
@@ -161,7 +167,10 @@ module _ {D : Type 0} (honest : D → Type 0) (moment : D → ℕ) (left : D →
         → IsLived honest moment left seen config entry opened_at begun events given new.disk
         new.disk
 
-  -- A gateway in its life may be stopped between two calls; and if it holds nothing, it rests. What the calls of
+  -- A gateway in its life may be stopped between two calls; and if it holds nothing, it rests. What its calls promise leads
+  -- on in its life, or is its end: what they say of an event that was taken (`Takes`, as `offer` says it clause by clause,
+  -- and of `Gateway::facts` its first two), of answers that were synced (`Syncs`), and of a run (`carries` of it). What the
+  -- calls of
   -- `running` promise of a run that began where it rested leads on in its life (`Stands`), or to its end (`Ends`); so
   -- does a stop within them (`SafeWithin`, `SafeThrough`), with all answers given out that were before.
   pub record CallsAreLives : Type 0 where
@@ -170,6 +179,21 @@ module _ {D : Type 0} (honest : D → Type 0) (moment : D → ℕ) (left : D →
         (events : List Event) (given : List (ℕ × Answer))
         → IsInLife config entry opened_at begun events given now → now.told.held ≡ []
         → RestsInLife honest moment left seen config entry opened_at begun events given now
+    pub takes : (old new : Kept D) (event : Event) (given : Given)
+        → IsTrue (is_config old.told.config) → IsSoundState old.told.config old.told.state
+        → Takes old new event given → new.disk ≡ old.disk → new.fallen ≡ old.fallen
+        → StopsInLife old new × TakesInLife old new event (handed given)
+    pub syncs : (called : D → ℕ) (old new : Kept D) (end : Result (Unit {0}) GatewayFault)
+        → Syncs honest moment left seen called failed old new end
+        → StopsInLife old new × OnOk end (GoesOnInLife old new old.told.held)
+        × OnErr end (EndsLife old new)
+    pub carries : (old new : Kept D) (taken : List Event) (out : List (ℕ × Answer))
+        → ((before : List (ℕ × Answer))
+        → CarriesOn honest moment left failed old new taken before (before ++ out))
+        → TakesAllInLife old new taken out
+    pub safe : (old new : Kept D)
+        → ((before : List (ℕ × Answer)) → SafeWithin honest moment left failed old new before)
+        → StopsInLife old new
     pub stands : (config : Config) (entry : D) (opened_at : ℕ) (begun rested now : Kept D)
         (events more : List Event) (given out : List (ℕ × Answer))
         → RestsInLife honest moment left seen config entry opened_at begun events given rested

@@ -5,28 +5,26 @@
 //! - `lives_are_the_models`: gateways opened one after the other over the same files, each stopped at any moment
 //! - `goes_on_after_a_stop`: the plainest case of it
 //! - `restarts_keep_the_state`: which state a gateway begins with then
-//! - `open_in_lives`, `run_in_lives`, `offer_in_lives`, `take_packet_in_lives`, `take_event_in_lives`,
-//!   `flush_in_lives`, `settle_in_lives`, `compact_in_lives`: the calls of `Gateway`, each with the clauses that say
-//!   that it makes such lives
-//! - `rests_in_lives`: from `open` and `run` on to the others
-//! - `calls_are_lives`: so do the calls of `running`, which make these
+//! - `open_in_lives`, `run_in_lives`, `compact_in_lives`: these calls of `Gateway`, each with the clauses that say that it
+//!   makes such lives; `rests_in_lives`: from `open` and `run` on to the other calls
+//! - `calls_are_lives`: what `offer`, `take_packet`, `take_event`, `flush` and `settle` promise makes such lives; so do the
+//!   calls of `running`, which make these
 ghost use Rattle.std.specs.Prelude.{◌≡◌, ◌≢◌, ◌≤◌, ◌++◌, ◌∷◌, [], List, length, IfErr, IfOk, MatchResult, OnErr, OnOk, true};
 ghost use Rattle.packet.specs.Config.{Config};
+ghost use Rattle.disk_model.specs.Disk.{LeavesNow};
+ghost use Rattle.durable.specs.Entering.{Durable};
 ghost use Rattle.machine.specs.declared.event.Event.{Event};
-ghost use Rattle.machine.specs.declared.event.What.TheVariants.{Packet};
-ghost use Rattle.gateway.specs.Given.{answer_given, given_by, handed};
-ghost use Rattle.gateway.specs.Lives.{GoesOnAfterAStop, IsLife, LivesAreTheModels, Refused, Stopped};
-ghost use Rattle.gateway.specs.Living.{CallsAreLives, EndsLife, EndsTaking, GoesOnInLife, RestsAgain, RestingIsLiving, RestsInLife, RunsInLife, StaysInLife, StopsInLife, StopsTaking, TakesAllInLife, TakesInLife};
+ghost use Rattle.gateway.specs.Lives.{AreLives, GoesOnAfterAStop, IsAsModel, IsLife, Life, LivesAreTheModels, NextFinds, Refused, Stopped};
+ghost use Rattle.gateway.specs.Living.{CallsAreLives, EndsLife, EndsTaking, GoesOnInLife, RestsAgain, RestingIsLiving, RestsInLife, RunsInLife, StaysInLife, StopsInLife, StopsTaking, TakesAllInLife};
 ghost use Rattle.gateway.specs.Restarts.{RestartsKeepTheState};
 ghost use Rattle.gateway.specs.Standing.{CallsStandForTheModel};
-ghost use Rattle.gateway.specs.Taking.{IsNoPacket};
 ghost use Rattle.gateway.specs.Told.{TookAll};
 
 use crate::calls::Gateway;
-use crate::{GatewayFault, Given, GivenInPlace, OpenFault};
+use crate::{GatewayFault, OpenFault};
 use disk_model::Disk;
 use machine::laws::runs_keep_sound;
-use machine::{Answer, Event, Iface};
+use machine::{Answer, Event};
 use packet::Bounds;
 use rulesyntax::one_ruleset;
 use std::alloc::Global;
@@ -76,7 +74,7 @@ pub fn restarts_keep_the_state()
 }
 
 /// Opens a gateway (`Gateway::open`). Stopped within it, or refused by it, that is a life; else the gateway that it
-/// gives is in its life.
+/// gives is in its life. Behind earlier lives it tells neither damage nor another configuration.
 ///
 /// # Errors
 ///
@@ -97,8 +95,15 @@ pub fn open_in_lives<D: Disk + Drop>(
         (record { disk = disk; opened_at = moment; course = Refused e.0 e.1 })) }
     ensures opened { D.honest disk → IfOk result (λ g.
         RestsInLife D.honest D.moment D.left D.seen bounds disk moment g [] [] g) }
+    ensures behind { D.honest disk → (first : Durable) (earlier : List (Life D))
+        → AreLives D.honest D.moment D.left D.seen bounds first earlier
+        → LeavesNow D.moment D.left disk
+        (NextFinds D.honest D.moment D.left D.seen bounds first earlier)
+        → IfErr result (λ e. IsAsModel D.honest D.moment D.left D.seen bounds first earlier moment
+        (Refused e.0 e.1)) }
 {
     bounds.facts();
+    lives_are_the_models(&disk);
     Gateway::open(alloc, disk, bounds, moment)
 }
 
@@ -112,8 +117,8 @@ pub fn rests_in_lives<D: Disk + Drop>(gateway: &Gateway<D>)
 
 /// Takes events (`Gateway::run`), for a gateway that rests in its life. Stopped within it, or after it, that is a life.
 /// If it ends well, the gateway rests again; with any fault but `Device` it goes on in its life, and may hold answers.
-/// Whatever the gateway holds when it begins, it goes on in its life, with these answers given out too, or that ends with
-/// them; and a stop within it is the end of its life, with all answers that were given out before.
+/// Whatever the gateway holds when it begins, it goes on in its life, with these answers given out too; with `Device` that
+/// ends, with these given out. A stop within it is the end of its life, with all answers that were given out before.
 ///
 /// # Errors
 ///
@@ -145,119 +150,10 @@ pub fn run_in_lives<D: Disk + Drop>(
         gateway.old gateway.new front e.0.items)
         × EndsTaking D.honest D.moment D.left D.seen D.failed gateway.old gateway.new front
         e.0.items) }
+    ensures none { OnOk result (gateway.new.told.held ≡ []) }
+    ensures fallen { gateway.old.fallen ≡ true → IsErr result × (gateway.new ≡ gateway.old) }
 {
     gateway.run(events)
-}
-
-/// Offers an event (`Gateway::offer`), for a gateway in its life. Stopped within it, that is a life, in which the event
-/// isn't taken. After it the gateway goes on in its life, and the event's answer counts as given out if it is told at
-/// once, and not yet if it is held. With a fault nothing has changed, so that its life is as before.
-///
-/// # Errors
-///
-/// Those of `Gateway::offer`.
-pub fn offer_in_lives<D: Disk + Drop>(
-    gateway: &mut Gateway<D>,
-    event: Event,
-) -> Result<Given, (Event, GatewayFault)>
-    ensures stopped { StopsInLife D.honest D.moment D.left D.seen D.failed gateway.old gateway.new }
-    ensures ok { IfOk result (λ given. TakesInLife D.honest D.moment D.left D.seen D.failed
-        gateway.old gateway.new event (handed given)) }
-    ensures err { IfErr result (λ e. (e.0 ≡ event) × (gateway.new ≡ gateway.old)) }
-{
-    gateway.facts();
-    gateway.offer(event)
-}
-
-/// Takes a packet in its caller's bytes (`Gateway::take_packet`), for a gateway in its life. Stopped within it, that is
-/// a life, in which the packet isn't taken. After it the gateway goes on in its life. The answer, which lies in these
-/// bytes, counts as given out if it is told at once. If it is held, it doesn't yet, so its caller keeps it back: it
-/// counts once `settle_in_lives` or `flush_in_lives` has ended well. With a fault nothing has changed, so that its life
-/// is as before.
-///
-/// # Errors
-///
-/// Those of `Gateway::take_packet`.
-pub fn take_packet_in_lives<D: Disk + Drop>(
-    gateway: &mut Gateway<D>,
-    moment: u64,
-    iface: Iface,
-    packet: &mut [u8],
-) -> Result<GivenInPlace, GatewayFault>
-    requires short { length packet.old ≤ 65535 }
-    ensures stopped { StopsInLife D.honest D.moment D.left D.seen D.failed gateway.old gateway.new }
-    ensures ok { IfOk result (λ taken. TakesInLife D.honest D.moment D.left D.seen D.failed
-        gateway.old gateway.new (record { moment = moment; what = Packet iface packet.old })
-        (handed (given_by taken packet.new))) }
-
-    // Told at once, or held, it is the answer that lies there. It counts as told in place, as `settle_in_lives` asks.
-    ensures answer { IfOk result (λ taken.
-        handed (given_by taken packet.new) ++ gateway.new.told.held
-        ≡ gateway.old.told.held ++ answer_given taken packet.new ∷ []) }
-    ensures in_place { gateway.new.in_place ≡ gateway.old.in_place }
-    ensures err { OnErr result ((gateway.new ≡ gateway.old) × (packet.new ≡ packet.old)) }
-{
-    gateway.facts();
-    gateway.take_packet(moment, iface, packet)
-}
-
-/// Takes an event without a packet (`Gateway::take_event`), for a gateway in its life, as `take_packet_in_lives` takes
-/// a packet.
-///
-/// # Errors
-///
-/// Those of `Gateway::take_event`.
-pub fn take_event_in_lives<D: Disk + Drop>(
-    gateway: &mut Gateway<D>,
-    event: Event,
-) -> Result<GivenInPlace, (Event, GatewayFault)>
-    requires bodiless { IsNoPacket event.what }
-    ensures stopped { StopsInLife D.honest D.moment D.left D.seen D.failed gateway.old gateway.new }
-    ensures ok { IfOk result (λ taken. TakesInLife D.honest D.moment D.left D.seen D.failed
-        gateway.old gateway.new event (handed (given_by taken []))) }
-    ensures answer { IfOk result (λ taken. handed (given_by taken []) ++ gateway.new.told.held
-        ≡ gateway.old.told.held ++ answer_given taken [] ∷ []) }
-    ensures in_place { gateway.new.in_place ≡ gateway.old.in_place }
-    ensures err { IfErr result (λ e. (e.0 ≡ event) × (gateway.new ≡ gateway.old)) }
-{
-    gateway.facts();
-    gateway.take_event(event)
-}
-
-/// Flushes (`Gateway::flush`), for a gateway in its life. Stopped within it, that is a life, in which no answer counts
-/// as given out that wasn't before. After it the gateway goes on in its life, with the answers that it handed out; with
-/// a fault, that is its end.
-///
-/// # Errors
-///
-/// Those of `Gateway::flush`.
-pub fn flush_in_lives<D: Disk + Drop>(
-    gateway: &mut Gateway<D>,
-) -> Result<Vec<(u64, Answer)>, GatewayFault>
-    ensures stopped { StopsInLife D.honest D.moment D.left D.seen D.failed gateway.old gateway.new }
-    ensures ok { IfOk result (λ answers. GoesOnInLife D.honest D.moment D.left D.seen D.failed
-        gateway.old gateway.new answers.items) }
-    ensures err { OnErr result (EndsLife D.honest D.moment D.left D.seen D.failed gateway.old
-        gateway.new) }
-{
-    gateway.flush()
-}
-
-/// Settles (`Gateway::settle`), for a gateway in its life: as `flush_in_lives`, but the answers count as given out that
-/// were held.
-///
-/// # Errors
-///
-/// Those of `Gateway::settle`.
-pub fn settle_in_lives<D: Disk + Drop>(gateway: &mut Gateway<D>) -> Result<(), GatewayFault>
-    requires { gateway.old.in_place ≡ true }
-    ensures stopped { StopsInLife D.honest D.moment D.left D.seen D.failed gateway.old gateway.new }
-    ensures ok { OnOk result (GoesOnInLife D.honest D.moment D.left D.seen D.failed gateway.old
-        gateway.new gateway.old.told.held) }
-    ensures err { OnErr result (EndsLife D.honest D.moment D.left D.seen D.failed gateway.old
-        gateway.new) }
-{
-    gateway.settle()
 }
 
 /// Compacts (`Gateway::compact`), for a gateway in its life that holds nothing. Stopped within it, that is a life.
@@ -274,13 +170,17 @@ pub fn compact_in_lives<D: Disk + Drop>(gateway: &mut Gateway<D>) -> Result<(), 
     ensures err { OnErr result (EndsLife D.honest D.moment D.left D.seen D.failed gateway.old
         gateway.new) }
     ensures stays { IfErr result (λ e. e ≢ GatewayFault.Device → gateway.new ≡ gateway.old) }
+    ensures told { gateway.new.told ≡ gateway.old.told }
+    ensures fallen { gateway.old.fallen ≡ true → IsErr result × (gateway.new ≡ gateway.old) }
 {
     gateway.compact()
 }
 
-/// Between two calls a stop is the end of a life. What the calls of `running` promise leads on in the life of a gateway
-/// (`CarriesOn`), or to its end (`BreaksOff`). So does a stop within them (`SafeWithin`), and within a run of events
-/// that begins while answers are held (`SafeThrough`).
+/// Between two calls a stop is the end of a life. What the calls of a gateway promise leads on in its life, or to its end:
+/// `offer`, `take_packet` and `take_event` (`takes`), `flush` and `settle` (`syncs`). A held answer counts as given out once
+/// one of these two has ended well, and not before, also if it was told in place. So does what the calls of `running`
+/// promise (`CarriesOn`, `BreaksOff`), a stop within them (`SafeWithin`), and one within a run of events that begins while
+/// answers are held (`SafeThrough`).
 pub fn calls_are_lives<D: Disk>(_: &D)
     ensures { CallsAreLives D.honest D.moment D.left D.seen D.failed }
 {}

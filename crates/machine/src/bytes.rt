@@ -1,7 +1,13 @@
 //! Bytes that contracts see as a list.
 ghost use Rattle.std.specs.Prelude.{◌≡◌, ◌^◌, ◌<◌, length};
+ghost use Rattle.packet.specs.Laws.{AreBytes};
 
 use std::marker::Model;
+
+/// What every slice of bytes keeps: each is below 256, as the laws of packets ask. It does nothing but carry this.
+pub fn bytes_fit(bytes: &[u8])
+    ensures { AreBytes bytes.now }
+{}
 
 /// A packet or a text of fewer than 2^31 bytes, seen as the list of them.
 #[derive(Drop)]

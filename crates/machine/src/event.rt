@@ -5,7 +5,7 @@ ghost use Rattle.packet.specs.declared.endpoint.Iface.{Iface};
 ghost use Rattle.machine.specs.Fates.{answer_of};
 ghost use Rattle.machine.specs.declared.event.What.TheVariants.{Packet};
 
-use crate::bytes::Bytes;
+use crate::bytes::{Bytes, bytes_fit};
 use packet::Iface;
 
 /// What an event brings.
@@ -40,10 +40,6 @@ impl Event {
         }
     }
 }
-
-fn bytes_fit(bytes: &[u8])
-    ensures { AreBytes bytes.now }
-{}
 
 /// What an event is answered.
 #[derive(Drop)]

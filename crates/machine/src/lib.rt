@@ -36,7 +36,7 @@ mod notes;
 mod noting;
 mod state;
 
-pub use bytes::Bytes;
+pub use bytes::{Bytes, bytes_fit};
 pub use core_state::Core;
 pub use event::{Answer, Event, Fate, What};
 pub use fault::{NoMemory, StepFault};
