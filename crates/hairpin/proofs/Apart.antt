@@ -25,6 +25,7 @@ use Rattle.hairpin.specs.Legs.{by_mapping, is_at, is_taken, lets_in, maps_inside
 use Rattle.sessions.specs.Sound.{IsPlaced}
 use Rattle.hairpin.specs.declared.cause.Cause.{Cause}
 use Rattle.hairpin.specs.declared.cause.Cause.TheVariants.{Filtered, NoMapping, NoPort}
+use Rattle.hairpin.proofs.Pairs.{found-in}
 
 pub cases_endpoint : (e f : Endpoint) → (e ≡ f) ⊎ (e ≢ f)
 cases_endpoint e f = elim (cases_Bool (same_endpoint e f)) [
@@ -76,27 +77,16 @@ find-In p (x ∷ xs) s e = elim (cases_Bool (p x)) [
       (inr old.0, old.1)
 ]
 
-pub some_or_none : (o : Option Session) → ((s : Session) × (o ≡ Some s)) ⊎ (o ≡ None)
-some_or_none (Some s) = inl (s, refl)
-some_or_none None = inr refl
-
-is_some-None : (o : Option Session) → o ≡ None → is_some o ≡ true → ⊥
-is_some-None (Some s) e h = none-some s (sym e)
-is_some-None None e h = false≢true h
-
 pub taken-from : (sessions : List Session) (proto : Proto) (addr port : ℕ) (s : Session) → In s sessions → s.proto ≡ proto → s.outside ≡ endpoint addr port → is_taken sessions proto addr port ≡ true
 taken-from sessions proto addr port s is p o =
     let found = find-some (is_at proto (endpoint addr port)) sessions s is (at-from proto (endpoint addr port) s p o) in
     ap is_some found.1
 
 pub taken-by : (sessions : List Session) (proto : Proto) (addr port : ℕ) → is_taken sessions proto addr port ≡ true → (s : Session) × In s sessions × (s.proto ≡ proto) × (s.outside ≡ endpoint addr port)
-taken-by sessions proto addr port h = elim (some_or_none (find (is_at proto (endpoint addr port)) sessions)) [
-  | inl some ↦
-      let is = find-In (is_at proto (endpoint addr port)) sessions some.0 some.1 in
-      let parts = at-parts proto (endpoint addr port) some.0 is.1 in
-      (some.0, is.0, parts.0, parts.1)
-  | inr none ↦ absurd (is_some-None (find (is_at proto (endpoint addr port)) sessions) none h)
-]
+taken-by sessions proto addr port h =
+    let is = found-in (is_at proto (endpoint addr port)) sessions h in
+    let parts = at-parts proto (endpoint addr port) is.0 is.2 in
+    (is.0, is.1, parts.0, parts.1)
 
 -- an external address isn't inside
 pub outside_away : (config : Config) → is_config config ≡ true → (addr : ℕ) → Contains config.external addr → is_inside config addr ≡ true → ⊥

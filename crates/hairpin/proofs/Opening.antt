@@ -1,7 +1,7 @@
 -- What is known of a session that begins, and that what a packet on its way out comes to may join the sessions.
-use Rattle.std.proofs.Common.{◌≡◌, ◌≢◌, ◌⊎◌, ℕ, ◌<◌, List, length, Contains, Option, Some, None, Result, Ok, Err, count_by, is_some, true, false, nat_lt, if◌then◌else◌, refl, sym, ap, ◌∙◌, subst, inl, inr, arith}
+use Rattle.std.proofs.Common.{◌≡◌, ◌≢◌, ◌⊎◌, ℕ, ◌<◌, List, length, Contains, Option, Some, None, Ok, Err, count_by, is_some, true, false, nat_lt, if◌then◌else◌, refl, sym, ap, ◌∙◌, subst, inl, inr, arith}
 use Rattle.std.specs.Prelude.{find}
-use Rattle.std.proofs.lemmas.Bool.{cases_Bool, false≢true, le-ltb, lt-ltb, ltb-false}
+use Rattle.std.proofs.lemmas.Bool.{false≢true, le-ltb, lt-ltb}
 use Rattle.packet.specs.Config.{Config, Pool, is_config, is_inside}
 use Rattle.packet.specs.Same.{same_endpoint}
 use Rattle.packet.specs.declared.endpoint.Endpoint.{Endpoint}
@@ -16,23 +16,21 @@ use Rattle.sessions.specs.Table.{Clash}
 use Rattle.sessions.specs.declared.session.Change.TheVariants.{Begin}
 use Rattle.sessions.specs.declared.session.Opener.TheVariants.{Inside}
 use Rattle.sessions.specs.declared.session.Session.{Session}
-use Rattle.sessions.proofs.Puts.{has_inside-true}
 use Rattle.sessions.proofs.Sets.{listing-In}
 use Rattle.verdict.specs.Hooks.{forward_verdict, postrouting_verdict}
 use Rattle.verdict.specs.declared.facts.Facts.{Facts}
 use Rattle.verdict.specs.declared.facts.State.TheVariants.{New}
 use Rattle.verdict.specs.declared.hook.Source.{Source}
 use Rattle.verdict.specs.declared.hook.Source.TheVariants as source
-use Rattle.hairpin.specs.Legs.{begun_out, counted, facts_of, forwarded, is_taken, maps_inside, needs_session, new_session, or_no_port, out_by, out_leg, outside_by_rules, outside_for, outward, passed_by, connection_of, then_with, uses_in}
+use Rattle.hairpin.specs.Legs.{begun_out, counted, facts_of, forwarded, is_taken, maps_inside, needs_session, new_session, out_by, out_leg, outside_by_rules, outside_for, outward, passed_by, connection_of, then_with, uses_in}
 use Rattle.hairpin.specs.Plans.{IsPlanOf, MayBegin}
 use Rattle.hairpin.specs.KeepBounds.{KeepBounds}
 use Rattle.sessions.specs.Sound.{AreSound}
-use Rattle.hairpin.specs.declared.cause.Cause.{Cause}
 use Rattle.hairpin.specs.declared.cause.Cause.TheVariants.{NoSession, Rule, TableFull}
 use Rattle.hairpin.specs.declared.plan.Plan.{Plan}
 use Rattle.hairpin.proofs.Apart.{choice-free, chosen_apart, err-ok, find-In, fresh, mapped-some, mapped_apart, maps-parts, outside_away, port-ok, same_Ok}
 use Rattle.hairpin.proofs.Choosing.{pool-given}
-use Rattle.hairpin.proofs.Soundness.{IsFine, fine-filtered, one-joins, passed-joins, put-more, put-sound}
+use Rattle.hairpin.proofs.Soundness.{IsFine, fine-filtered, fine-one, fine-then, fine-unless, one-joins, passed-joins, put-more}
 
 -- what is known of a session that begins: it stands apart from all, and its outside endpoint is in its place
 pub record Opened (config : Config) (sessions : List Session) (new : Session) : Type 0 where
@@ -112,17 +110,6 @@ module _ (config : Config) (rules : Spelled) (bounded : KeepBounds config rules)
   abbrev facts : Facts
   facts = facts_of config rules sessions now view Lan (Some Wan) view.src view.dst New
 
-  -- what is chosen at an address is what the rules ask for that say it
-  pub by_snat : (addr : ℕ) → postrouting_verdict config facts rules ≡ source.From addr → (o : Option Endpoint) → o ≡ port_at (is_taken sessions view.proto) view.src.port addr
-      → or_no_port o ≡ outside_by_rules config rules sessions now view (postrouting_verdict config facts rules)
-  by_snat addr e o is = ap or_no_port is ∙ sym (ap (outside_by_rules config rules sessions now view) e)
-
-  -- what is chosen of the pool is what those ask for that masquerade
-  pub by_masquerade : postrouting_verdict config facts rules ≡ source.Masquerade → (o : Option Endpoint)
-      → o ≡ pool_choice (uses_in sessions view.src.addr) (is_taken sessions view.proto) config.external view.src.port
-      → or_no_port o ≡ outside_by_rules config rules sessions now view (postrouting_verdict config facts rules)
-  by_masquerade e o is = ap or_no_port is ∙ sym (ap (outside_by_rules config rules sessions now view) e)
-
   module _ (is_one : is_config config ≡ true) (sound : AreSound config sessions) (is_near : is_inside config view.src.addr ≡ true) (near_port : 0 < view.src.port)
       (none : find (has_inside view.proto view.src view.dst) sessions ≡ None) where
     abbrev new : Endpoint → Session
@@ -166,27 +153,11 @@ module _ (config : Config) (rules : Spelled) (bounded : KeepBounds config rules)
         let full : nat_lt 65536 (length (put (new outside) sessions)) ≡ true = lt-ltb _ _ (omega (arith, many, put-more (new outside) sessions (opened outside h).apart)) in
         begun-at outside h ∙ ap (λ b. if b then Err TableFull else Ok (outward (new outside))) full
 
-    module _ (remote_port : 0 < view.dst.port) where
-      fine_counted : (outside : Endpoint) → Opened config sessions (new outside) → IsFine config sessions now (counted config rules sessions now view (outward (new outside)))
-      fine_counted outside o =
-          let t = new outside in
-          elim (cases_Bool (nat_lt 65536 (length (put t sessions)))) [
-            | inl full ↦ subst (λ b. IsFine config sessions now (if b then Err TableFull else Ok (outward t))) (sym full) tt
-            | inr room ↦ subst (λ b. IsFine config sessions now (if b then Err TableFull else Ok (outward t))) (sym room)
-                (one-joins config sessions now t (record {
-                  sound = put-sound config sessions sound t (λ s in_s other. o.apart s in_s)
-                      (omega (arith, ltb-false 65536 (length (put t sessions)) room))
-                      (record { inside = is_near; outside = o.outside; inside_port = near_port; outside_port = o.port; remote_port = remote_port })
-                      (omega arith);
-                  last = refl;
-                  keeps = λ u in_u same. absurd (o.apart u in_u (inl (has_inside-true view.proto view.src view.dst u same)));
-                }))
-          ]
-
-      fine_begun : (r : Result Endpoint Cause) → outside_for config rules sessions now view (find (maps_inside view.proto view.src) sessions) ≡ r
-          → IsFine config sessions now (then_with r (λ o. counted config rules sessions now view (outward (new o))))
-      fine_begun (Err cause) e = tt
-      fine_begun (Ok outside) e = fine_counted outside (opened outside e)
+    fine_begun : 0 < view.dst.port → IsFine config sessions now (begun_out config rules sessions now view)
+    fine_begun remote_port = fine-then config sessions now (outside_for config rules sessions now view (find (maps_inside view.proto view.src) sessions)) (λ o. counted config rules sessions now view (outward (new o))) (λ outside e.
+        let o = opened outside e in
+        fine-one config sessions sound now (new outside) outside view.dst Wan o.apart
+        (record { inside = is_near; outside = o.outside; inside_port = near_port; outside_port = o.port; remote_port = remote_port }) (omega arith) refl)
 
 module _ (config : Config) (rules : Spelled) (sessions : List Session) (now : ℕ) (view : View) (is_one : is_config config ≡ true) (sound : AreSound config sessions) (bounded : KeepBounds config rules)
     (is_near : is_inside config view.src.addr ≡ true) (near_port : 0 < view.src.port) (remote_port : 0 < view.dst.port) where
@@ -196,14 +167,10 @@ module _ (config : Config) (rules : Spelled) (sessions : List Session) (now : �
       fine-filtered config sessions now (forward_verdict config (facts_of config rules sessions now view Lan (Some Wan) view.src view.dst (connection_of s Inside view.flags)) rules) (Ok (outward t))
       (one-joins config sessions now t (passed-joins config sessions sound s Inside view.flags now (find-In (has_inside view.proto view.src view.dst) sessions s e).0))
   fine_by None e =
-      let way = forwarded config rules sessions now view Lan Wan view.src view.dst New (begun_out config rules sessions now view) in
-      elim (cases_Bool (needs_session view)) [
-        | inl needs ↦ subst (λ b. IsFine config sessions now (if b then Err NoSession else way)) (sym needs) tt
-        | inr begins ↦ subst (λ b. IsFine config sessions now (if b then Err NoSession else way)) (sym begins)
-            (fine-filtered config sessions now (forward_verdict config (facts_of config rules sessions now view Lan (Some Wan) view.src view.dst New) rules) (begun_out config rules sessions now view)
-            (fine_begun config rules bounded sessions now view is_one sound is_near near_port e remote_port
-            (outside_for config rules sessions now view (find (maps_inside view.proto view.src) sessions)) refl))
-      ]
+      let way = begun_out config rules sessions now view in
+      fine-unless config sessions now (needs_session view) NoSession (forwarded config rules sessions now view Lan Wan view.src view.dst New way) (λ begins.
+      fine-filtered config sessions now (forward_verdict config (facts_of config rules sessions now view Lan (Some Wan) view.src view.dst New) rules) way
+      (fine_begun config rules bounded sessions now view is_one sound is_near near_port e remote_port))
 
   -- what a packet on its way out comes to may join the sessions
   pub fine-out : IsFine config sessions now (out_leg config rules sessions now view)
