@@ -42,8 +42,7 @@ maps-parts proto inside s h =
 
 pub maps-from : (proto : Proto) (inside : Endpoint) (s : Session) → s.inside ≢ s.outside → s.proto ≡ proto → s.inside ≡ inside → maps_inside proto inside s ≡ true
 unfolding maps_inside
-maps-from proto inside s away p i =
-    and_from _ _ (and_from _ _ (ap not (differ s.inside s.outside away)) (same_proto-from s.proto proto p)) (same_endpoint-from s.inside inside i)
+maps-from proto inside s away p i = and_from _ _ (and_from _ _ (ap not (differ s.inside s.outside away)) (same_proto-from s.proto proto p)) (same_endpoint-from s.inside inside i)
 
 pub maps_outside-parts : (proto : Proto) (outside : Endpoint) (s : Session) → maps_outside proto outside s ≡ true → (s.inside ≢ s.outside) × (s.proto ≡ proto) × (s.outside ≡ outside)
 unfolding maps_outside
@@ -54,8 +53,7 @@ maps_outside-parts proto outside s h =
 
 pub maps_outside-from : (proto : Proto) (outside : Endpoint) (s : Session) → s.inside ≢ s.outside → s.proto ≡ proto → s.outside ≡ outside → maps_outside proto outside s ≡ true
 unfolding maps_outside
-maps_outside-from proto outside s away p o =
-    and_from _ _ (and_from _ _ (ap not (differ s.inside s.outside away)) (same_proto-from s.proto proto p)) (same_endpoint-from s.outside outside o)
+maps_outside-from proto outside s away p o = and_from _ _ (and_from _ _ (ap not (differ s.inside s.outside away)) (same_proto-from s.proto proto p)) (same_endpoint-from s.outside outside o)
 
 pub at-parts : (proto : Proto) (outside : Endpoint) (s : Session) → is_at proto outside s ≡ true → (s.proto ≡ proto) × (s.outside ≡ outside)
 unfolding is_at
@@ -119,8 +117,7 @@ module _ (sessions : List Session) (apart : (s t : Session) → In s sessions �
         none-some found.0 (sym none ∙ found.1)
 
     -- by a mapping that lives
-    pub mapped_apart : (m : Session) → In m sessions → m.inside ≢ m.outside → m.proto ≡ new.proto → m.inside ≡ new.inside → m.outside ≡ new.outside
-        → s.inside ≢ m.outside → ¬ Clash new s
+    pub mapped_apart : (m : Session) → In m sessions → m.inside ≢ m.outside → m.proto ≡ new.proto → m.inside ≡ new.inside → m.outside ≡ new.outside → s.inside ≢ m.outside → ¬ Clash new s
     mapped_apart m in_m m_away m_proto m_inside m_outside placed (inl h) = fresh h.0 h.1 h.2
     mapped_apart m in_m m_away m_proto m_inside m_outside placed (inr (inl h)) = elim (cases_endpoint s.inside s.outside) [
       | inl plain ↦ placed (plain ∙ h.1 ∙ sym m_outside)
@@ -130,10 +127,7 @@ module _ (sessions : List Session) (apart : (s t : Session) → In s sessions �
     ]
     mapped_apart m in_m m_away m_proto m_inside m_outside placed (inr (inr h)) =
         let same = agree s m in_s in_m h.1 m_away (sym h.2 ∙ sym m_proto) in
-        elim h.3 [
-          | inl i ↦ i.1 (sym (same.0 (sym i.0 ∙ sym m_inside) ∙ m_outside))
-          | inr o ↦ o.1 (sym (same.1 (sym o.0 ∙ sym m_outside) ∙ m_inside))
-        ]
+        elim h.3 [ inl i ↦ i.1 (sym (same.0 (sym i.0 ∙ sym m_inside) ∙ m_outside)) | inr o ↦ o.1 (sym (same.1 (sym o.0 ∙ sym m_outside) ∙ m_inside)) ]
 
     -- at a port that none has
     pub chosen_apart : find (maps_inside new.proto new.inside) sessions ≡ None → is_taken sessions new.proto new.outside.addr new.outside.port ≡ false → ¬ Clash new s

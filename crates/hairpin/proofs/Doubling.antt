@@ -57,8 +57,7 @@ find-filter p q (x ∷ xs) h = elim (cases_Bool (q x)) [
 
 -- a search finds what it found, where neither the session nor those that it replaces pass
 pub find-put : (p : Session → Bool) (t : Session) (xs : List Session) → p t ≡ false → ((s : Session) → In s xs → same_flow t s ≡ true → p s ≡ false) → find p (put t xs) ≡ find p xs
-find-put p t xs own others = find-insert p t (filter (λ u. not (same_flow t u)) xs) own
-    ∙ find-filter p (λ u. not (same_flow t u)) xs (λ s in_s h. others s in_s (not-false (same_flow t s) h))
+find-put p t xs own others = find-insert p t (filter (λ u. not (same_flow t u)) xs) own ∙ find-filter p (λ u. not (same_flow t u)) xs (λ s in_s h. others s in_s (not-false (same_flow t s) h))
 
 pub Rises-put : (t : Session) (xs : List Session) → Rises xs → Rises (put t xs)
 Rises-put t xs rises = Rises-insert t (filter (λ u. not (same_flow t u)) xs)

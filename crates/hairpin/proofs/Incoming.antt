@@ -1,5 +1,5 @@
 -- What a packet from a remote endpoint comes to, from what is looked up, and that it may join the sessions.
-use Rattle.std.proofs.Common.{◌≡◌, ◌≢◌, ◌⊎◌, ℕ, ◌+◌, ◌<◌, ◌≤◌, List, length, Contains, Option, Some, None, Result, Ok, Err, count_by, is_some, true, false, nat_lt, if◌then◌else◌, refl, sym, ap, ◌∙◌, subst, inl, inr, arith}
+use Rattle.std.proofs.Common.{◌≡◌, ◌≢◌, ◌⊎◌, ℕ, ◌+◌, ◌<◌, ◌≤◌, List, length, Contains, Option, Some, None, Result, Ok, Err, count_by, is_some, Bool, true, false, nat_lt, if◌then◌else◌, refl, sym, ap, ◌∙◌, subst, inl, inr, arith}
 use Rattle.std.specs.Prelude.{find}
 use Rattle.std.proofs.lemmas.Bool.{cases_Bool, false≢true, le-ltb, lt-ltb}
 use Rattle.packet.specs.Config.{Config, is_config, is_inside}
@@ -21,12 +21,11 @@ use Rattle.verdict.specs.declared.hook.Destination.TheVariants as destination
 use Rattle.verdict.specs.declared.hook.Forwarding.{Forwarding}
 use Rattle.verdict.specs.declared.hook.Forwarding.TheVariants as forwarding
 use Rattle.hairpin.specs.Legs.{Passage, begun_in, by_mapping, counted, facts_of, in_by, in_leg, inside_by_rules, inside_for, inward, maps_outside, needs_session, new_session, passed_by, connection_of, then_with, unless_dropped}
-use Rattle.hairpin.specs.Plans.{IsPlanOf, MayBegin}
+use Rattle.hairpin.specs.Plans.{MayBegin, Plans}
 use Rattle.hairpin.specs.KeepBounds.{KeepBounds}
 use Rattle.sessions.specs.Sound.{AreSound, IsPlaced}
 use Rattle.hairpin.specs.declared.cause.Cause.{Cause}
 use Rattle.hairpin.specs.declared.cause.Cause.TheVariants.{Clash, NoSession, Rule, TableFull}
-use Rattle.hairpin.specs.declared.plan.Plan.{Plan}
 use Rattle.hairpin.proofs.Apart.{find-In, same_Ok}
 use Rattle.hairpin.proofs.Clashing.{any_found, no_clash, none_found}
 use Rattle.hairpin.proofs.Doubling.{gone, inside-placed}
@@ -45,8 +44,7 @@ module _ (config : Config) (rules : Spelled) (sessions : List Session) (now : �
       ap (λ b. if b then Ok view.dst else given verdict) far ∙ ap given asked
 
   pub inside-near : is_inside config view.dst.addr ≡ true → inside_for config rules sessions now view ≡ Ok view.dst
-  inside-near near =
-      ap (λ b. if b then Ok view.dst else given (prerouting_verdict config (facts_of config rules sessions now view Wan None view.src view.dst New) rules)) near
+  inside-near near = ap (λ b. if b then Ok view.dst else given (prerouting_verdict config (facts_of config rules sessions now view Wan None view.src view.dst New) rules)) near
 
   pub is-near : (inside : Endpoint) → is_inside config view.dst.addr ≡ true → Ok inside ≡ inside_for config rules sessions now view → inside ≡ view.dst
   is-near inside near is = same_Ok inside view.dst (is ∙ inside-near near)
@@ -55,63 +53,56 @@ module _ (config : Config) (rules : Spelled) (sessions : List Session) (now : �
   pub in-new : find (has_outside view.proto view.dst view.src) sessions ≡ None → needs_session view ≡ false
       → (r : Result Endpoint Cause) → inside_for config rules sessions now view ≡ r → in_leg config rules sessions now view ≡ then_with r (begun_in config rules sessions now view)
   in-new none needs r is =
-      ap (in_by config rules sessions now view) none
-      ∙ ap (λ b. if b then Err NoSession else then_with (inside_for config rules sessions now view) (begun_in config rules sessions now view)) needs
+      ap (in_by config rules sessions now view) none ∙ ap (λ b. if b then Err NoSession else then_with (inside_for config rules sessions now view) (begun_in config rules sessions now view)) needs
       ∙ ap (λ way. then_with way (begun_in config rules sessions now view)) is
 
 -- a session that begins to this inside endpoint
-module _ (config : Config) (rules : Spelled) (held : List (Option Session)) (now : ℕ) (view : View) (inside : Endpoint) where
-  abbrev pub begun : Session
-  begun = new_session config rules (listing held) now view Remote inside view.dst view.src
-
-  abbrev pub plan : Plan
-  plan = record { first = Begin begun; second = None; src = view.src; dst = inside; iface = Lan }
-
-  abbrev pub filtered : Forwarding
+module _ (config : Config) (rules : Spelled) (held : List (Option Session)) (now : ℕ) (view : View) (inside : Endpoint) (t : Session) (is : t ≡ new_session config rules (listing held) now view Remote inside view.dst view.src) where
+  abbrev filtered : Forwarding
   filtered = forward_verdict config (facts_of config rules (listing held) now view Wan (Some Lan) view.src inside New) rules
 
-  abbrev pub way : Result Passage Cause
+  abbrev way : Result Passage Cause
   way = begun_in config rules (listing held) now view inside
 
-  abbrev pub behind : Result Passage Cause
-  behind = counted config rules (listing held) now view (inward begun)
+  abbrev behind : Session → Result Passage Cause
+  behind u = unless_dropped filtered (counted config rules (listing held) now view (inward u))
 
-  pub begun-clash : AnyClash held begun → way ≡ Err Clash
-  begun-clash any = ap (λ b. if b then Err Clash else unless_dropped filtered behind) (any_found held begun any)
+  asked : (b : Bool) → is_some (find (clashes t) (listing held)) ≡ b → way ≡ (if b then Err Clash else behind t)
+  asked b e = ap (λ (u : Session). if is_some (find (clashes u) (listing held)) then Err Clash else behind u) (sym is) ∙ ap (λ c. if c then Err Clash else behind t) e
 
-  module _ (apart : ¬ AnyClash held begun) where
-    asked : way ≡ unless_dropped filtered behind
-    asked = ap (λ b. if b then Err Clash else unless_dropped filtered behind) (ap is_some (none_found held begun apart))
+  pub begun-clash : AnyClash held t → Plans config.external held now (Err Clash) way
+  begun-clash any = subst (Plans config.external held now (Err Clash)) (sym (asked true (any_found held t any))) refl
 
-    pub begun-dropped : filtered ≡ forwarding.Drop → way ≡ Err Rule
-    begun-dropped is = asked ∙ ap (λ f. unless_dropped f behind) is
+  module _ (apart : ¬ AnyClash held t) where
+    decided : (d : Forwarding) → filtered ≡ d → way ≡ unless_dropped d (counted config rules (listing held) now view (inward t))
+    decided d e = asked false (ap is_some (none_found held t apart)) ∙ ap (λ f. unless_dropped f (counted config rules (listing held) now view (inward t))) e
 
-    counts : length (put begun (listing held)) ≡ count_by is_some held + 1
-    counts = put-more begun (listing held) (no_clash begun (listing held) (none_found held begun apart)) ∙ ap (λ n. n + 1) (length-listing held)
+    pub begun-dropped : filtered ≡ forwarding.Drop → Plans config.external held now (Err Rule) way
+    begun-dropped e = subst (Plans config.external held now (Err Rule)) (sym (decided forwarding.Drop e)) refl
 
-    pub begun-full : filtered ≡ forwarding.Pass → count_by is_some held ≡ 65536 → way ≡ Err TableFull
-    begun-full is full =
-        let many : nat_lt 65536 (length (put begun (listing held))) ≡ true = lt-ltb 65536 (length (put begun (listing held))) (omega (arith, counts, full)) in
-        asked ∙ ap (λ f. unless_dropped f behind) is ∙ ap (λ b. if b then Err TableFull else Ok (inward begun)) many
+    counts : length (put t (listing held)) ≡ count_by is_some held + 1
+    counts = put-more t (listing held) (no_clash t (listing held) (none_found held t apart)) ∙ ap (λ n. n + 1) (length-listing held)
 
-    pub begun-passes : filtered ≡ forwarding.Pass → length (listing held) ≤ 65536 → count_by is_some held ≢ 65536 → way ≡ Ok (inward begun)
-    begun-passes is most few =
+    pub begun-full : filtered ≡ forwarding.Pass → count_by is_some held ≡ 65536 → Plans config.external held now (Err TableFull) way
+    begun-full e full =
+        let many : nat_lt 65536 (length (put t (listing held))) ≡ true = lt-ltb 65536 (length (put t (listing held))) (omega (arith, counts, full)) in
+        subst (Plans config.external held now (Err TableFull)) (sym (decided forwarding.Pass e ∙ ap (λ b. if b then Err TableFull else Ok (inward t)) many)) refl
+
+    pub begun-plans : filtered ≡ forwarding.Pass → length (listing held) ≤ 65536 → count_by is_some held ≢ 65536 → (inside ≡ view.dst) ⊎ (Contains config.external view.dst.addr × (0 < view.dst.port))
+        → Plans config.external held now (Ok (record { first = Begin t; second = None; src = view.src; dst = inside; iface = Lan })) way
+    begun-plans e most few placed =
         let same = length-listing held in
         let below : count_by is_some held < 65536 = omega (arith, same, most, few) in
-        let room : nat_lt 65536 (length (put begun (listing held))) ≡ false = le-ltb 65536 (length (put begun (listing held))) (omega (arith, counts, below)) in
-        asked ∙ ap (λ f. unless_dropped f behind) is ∙ ap (λ b. if b then Err TableFull else Ok (inward begun)) room
-
-    pub begun-plan : count_by is_some held ≢ 65536 → (inside ≡ view.dst) ⊎ (Contains config.external view.dst.addr × (0 < view.dst.port))
-        → IsPlanOf config.external held now plan (inward begun)
-    begun-plan few placed =
-        let may : MayBegin config.external held now begun = record {
+        let room : nat_lt 65536 (length (put t (listing held))) ≡ false = le-ltb 65536 (length (put t (listing held))) (omega (arith, counts, below)) in
+        let may : MayBegin config.external held now t = subst (MayBegin config.external held now) (sym is) (record {
           unseen = refl;
           last = refl;
-          apart = apart;
+          apart = subst (λ (u : Session). ¬ AnyClash held u) is apart;
           few = few;
           placed = λ away. elim placed [ inl same ↦ absurd (apart-from inside view.dst away same) | inr there ↦ there ];
-        } in
-        record { sessions = (begun, (refl, may), refl); src = refl; dst = refl; iface = refl }
+        }) in
+        subst (Plans config.external held now (Ok (record { first = Begin t; second = None; src = view.src; dst = inside; iface = Lan }))) (sym (decided forwarding.Pass e ∙ ap (λ b. if b then Err TableFull else Ok (inward t)) room))
+        (record { sessions = (t, (refl, may), refl); src = ap (λ (u : Session). u.remote) (sym is); dst = ap (λ (u : Session). u.inside) (sym is); iface = refl })
 
 -- ---- what the leg comes to may join sessions that are sound
 

@@ -81,8 +81,7 @@ module _ (held : List (Option Session)) (m : Mappings) (counts : (p : Mapping) �
   mapping_held s inside outside in_s away p i o = subst (λ x. 0 < times m x) (mapping-is s proto inside outside p i o) (own_held held m counts s in_s away)
 
   -- the mapping that is found is that of the first session that has it
-  pub mapped_in : (inside outside : Endpoint) → 0 < times m (mapping proto inside outside)
-      → (t : Session) × (find (maps_outside proto outside) (listing held) ≡ Some t) × (t.inside ≡ inside)
+  pub mapped_in : (inside outside : Endpoint) → 0 < times m (mapping proto inside outside) → (t : Session) × (find (maps_outside proto outside) (listing held) ≡ Some t) × (t.inside ≡ inside)
   mapped_in inside outside lt =
       let is = held_by held m counts (mapping proto inside outside) lt in
       let u = is.0 in
@@ -138,8 +137,7 @@ module _ (filter : Filtering) (by : filter ≡ filtering.Address) (held : List (
   same-peers = ap (λ x. has_peer x m.inside m.outside remote) p ∙ ap (λ x. has_peer proto x m.outside remote) i ∙ ap (λ x. has_peer proto inside x remote) o
 
   asked : by_mapping filter (listing held) remote (Some m) ≡ (if is_some (find peers (listing held)) then Ok inside else Err Filtered)
-  asked = ap (λ (f : Filtering). by_mapping f (listing held) remote (Some m)) by
-      ∙ ap (λ (q : Session → Bool). if is_some (find q (listing held)) then Ok m.inside else Err Filtered) same-peers
+  asked = ap (λ (f : Filtering). by_mapping f (listing held) remote (Some m)) by ∙ ap (λ (q : Session → Bool). if is_some (find q (listing held)) then Ok m.inside else Err Filtered) same-peers
       ∙ ap (λ (e : Endpoint). if is_some (find peers (listing held)) then Ok e else Err Filtered) i
 
   pub given_known : KnowsIn held proto inside outside remote → Ok inside ≡ by_mapping filter (listing held) remote (Some m)

@@ -1,8 +1,8 @@
 -- What is known of a session that begins, and that what a packet on its way out comes to may join the sessions.
-use Rattle.std.proofs.Common.{◌≡◌, ◌≢◌, ◌⊎◌, ℕ, ◌<◌, List, length, Contains, Option, Some, None, Ok, Err, count_by, is_some, true, false, nat_lt, if◌then◌else◌, refl, sym, ap, ◌∙◌, subst, inl, inr, arith}
+use Rattle.std.proofs.Common.{◌≡◌, ◌≢◌, ◌⊎◌, ℕ, ◌+◌, ◌<◌, ◌≤◌, List, length, Contains, Option, Some, None, Ok, Err, count_by, is_some, true, false, nat_lt, if◌then◌else◌, refl, sym, ap, ◌∙◌, subst, inl, inr, arith}
 use Rattle.std.specs.Prelude.{find}
 use Rattle.std.proofs.lemmas.Bool.{false≢true, le-ltb, lt-ltb}
-use Rattle.packet.specs.Config.{Config, Pool, is_config, is_inside}
+use Rattle.packet.specs.Config.{Config, is_config, is_inside}
 use Rattle.packet.specs.Same.{same_endpoint}
 use Rattle.packet.specs.declared.endpoint.Endpoint.{Endpoint}
 use Rattle.packet.specs.declared.endpoint.Iface.TheVariants.{Lan, Wan}
@@ -16,6 +16,7 @@ use Rattle.sessions.specs.Table.{Clash}
 use Rattle.sessions.specs.declared.session.Change.TheVariants.{Begin}
 use Rattle.sessions.specs.declared.session.Opener.TheVariants.{Inside}
 use Rattle.sessions.specs.declared.session.Session.{Session}
+use Rattle.sessions.proofs.Puts.{length-listing}
 use Rattle.sessions.proofs.Sets.{listing-In}
 use Rattle.verdict.specs.Hooks.{forward_verdict, postrouting_verdict}
 use Rattle.verdict.specs.declared.facts.Facts.{Facts}
@@ -23,7 +24,7 @@ use Rattle.verdict.specs.declared.facts.State.TheVariants.{New}
 use Rattle.verdict.specs.declared.hook.Source.{Source}
 use Rattle.verdict.specs.declared.hook.Source.TheVariants as source
 use Rattle.hairpin.specs.Legs.{begun_out, counted, facts_of, forwarded, is_taken, maps_inside, needs_session, new_session, out_by, out_leg, outside_by_rules, outside_for, outward, passed_by, connection_of, then_with, uses_in}
-use Rattle.hairpin.specs.Plans.{IsPlanOf, MayBegin}
+use Rattle.hairpin.specs.Plans.{MayBegin, Plans}
 use Rattle.hairpin.specs.KeepBounds.{KeepBounds}
 use Rattle.sessions.specs.Sound.{AreSound}
 use Rattle.hairpin.specs.declared.cause.Cause.TheVariants.{NoSession, Rule, TableFull}
@@ -103,9 +104,6 @@ may_begin config held now t o unseen last few = record {
 abbrev pub plan_begun : Session → Plan
 plan_begun t = record { first = Begin t; second = None; src = t.outside; dst = t.remote; iface = Wan }
 
-pub begun-is : (external : Pool) (held : List (Option Session)) (now : ℕ) (t : Session) → MayBegin external held now t → IsPlanOf external held now (plan_begun t) (outward t)
-begun-is external held now t may = record { sessions = (t, (refl, may), refl); src = refl; dst = refl; iface = refl }
-
 module _ (config : Config) (rules : Spelled) (bounded : KeepBounds config rules) (sessions : List Session) (now : ℕ) (view : View) where
   abbrev facts : Facts
   facts = facts_of config rules sessions now view Lan (Some Wan) view.src view.dst New
@@ -141,17 +139,23 @@ module _ (config : Config) (rules : Spelled) (bounded : KeepBounds config rules)
     begun-at outside h = ap (λ r. then_with r (λ o. counted config rules sessions now view (outward (new o)))) h
 
     -- there is room for it, or not
-    pub room_left : (outside : Endpoint) → outside_for config rules sessions now view (find (maps_inside view.proto view.src) sessions) ≡ Ok outside → length sessions < 65536
-        → begun_out config rules sessions now view ≡ Ok (outward (new outside))
-    room_left outside h few =
-        let room : nat_lt 65536 (length (put (new outside) sessions)) ≡ false = le-ltb _ _ (omega (arith, few, put-more (new outside) sessions (opened outside h).apart)) in
-        begun-at outside h ∙ ap (λ b. if b then Err TableFull else Ok (outward (new outside))) room
+    module _ (held : List (Option Session)) (is : sessions ≡ listing held) (outside : Endpoint) (h : outside_for config rules sessions now view (find (maps_inside view.proto view.src) sessions) ≡ Ok outside) where
+      counts : length (put (new outside) sessions) ≡ count_by is_some held + 1
+      counts = put-more (new outside) sessions (opened outside h).apart ∙ ap (λ (xs : List Session). length xs + 1) is ∙ ap (λ n. n + 1) (length-listing held)
 
-    pub no_room : (outside : Endpoint) → outside_for config rules sessions now view (find (maps_inside view.proto view.src) sessions) ≡ Ok outside → length sessions ≡ 65536
-        → begun_out config rules sessions now view ≡ Err TableFull
-    no_room outside h many =
-        let full : nat_lt 65536 (length (put (new outside) sessions)) ≡ true = lt-ltb _ _ (omega (arith, many, put-more (new outside) sessions (opened outside h).apart)) in
-        begun-at outside h ∙ ap (λ b. if b then Err TableFull else Ok (outward (new outside))) full
+      pub no_room : count_by is_some held ≡ 65536 → Plans config.external held now (Err TableFull) (begun_out config rules sessions now view)
+      no_room many =
+          let full : nat_lt 65536 (length (put (new outside) sessions)) ≡ true = lt-ltb _ _ (omega (arith, many, counts)) in
+          subst (Plans config.external held now (Err TableFull)) (sym (begun-at outside h ∙ ap (λ b. if b then Err TableFull else Ok (outward (new outside))) full)) refl
+
+      pub room_left : count_by is_some held ≢ 65536 → (t : Session) → t ≡ new outside → Plans config.external held now (Ok (plan_begun t)) (begun_out config rules sessions now view)
+      room_left few t t_is =
+          let most : count_by is_some held ≤ 65536 = omega (arith, sound.at_most, ap (λ (xs : List Session). length xs) is, length-listing held) in
+          let room : nat_lt 65536 (length (put (new outside) sessions)) ≡ false = le-ltb _ _ (omega (arith, few, most, counts)) in
+          let may = may_begin config held now (new outside) (subst (λ (xs : List Session). Opened config xs (new outside)) is (opened outside h)) refl refl few in
+          subst (λ (u : Session). Plans config.external held now (Ok (plan_begun u)) (begun_out config rules sessions now view)) (sym t_is)
+          (subst (Plans config.external held now (Ok (plan_begun (new outside)))) (sym (begun-at outside h ∙ ap (λ b. if b then Err TableFull else Ok (outward (new outside))) room))
+          (record { sessions = (new outside, (refl, may), refl); src = refl; dst = refl; iface = refl }))
 
     fine_begun : 0 < view.dst.port → IsFine config sessions now (begun_out config rules sessions now view)
     fine_begun remote_port = fine-then config sessions now (outside_for config rules sessions now view (find (maps_inside view.proto view.src) sessions)) (λ o. counted config rules sessions now view (outward (new o))) (λ outside e.

@@ -79,14 +79,8 @@ put-at host t sessions addr at = elim (In-insert t (filter (λ u. not (same_flow
 
 pub put_in : PutStays
 put_in host t sessions one fits addr other at at_other = elim (put-at host t sessions addr at) [
-  | inl a ↦ elim (put-at host t sessions other at_other) [
-    | inl b ↦ a.1 ∙ sym b.1
-    | inr old ↦ a.1 ∙ sym (fits a.0 other old)
-  ]
-  | inr old ↦ elim (put-at host t sessions other at_other) [
-    | inl b ↦ fits b.0 addr old ∙ sym b.1
-    | inr old_other ↦ one addr other old old_other
-  ]
+  | inl a ↦ elim (put-at host t sessions other at_other) [ inl b ↦ a.1 ∙ sym b.1 | inr old ↦ a.1 ∙ sym (fits a.0 other old) ]
+  | inr old ↦ elim (put-at host t sessions other at_other) [ inl b ↦ fits b.0 addr old ∙ sym b.1 | inr old_other ↦ one addr other old old_other ]
 ]
 
 pub one_address : HostsKeepOneAddress

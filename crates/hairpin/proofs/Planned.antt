@@ -81,15 +81,11 @@ module _ (first : Session) (sessions : List Session) (keeps : (u : Session) → 
     | inl same ↦
         let has = has_inside-true first.proto first.inside first.remote u same in
         (first, put-In first sessions, Clash-same_keys t first t u (SameKeys-refl t) (record { proto = sym has.0; inside = sym has.1; outside = sym (keeps u in_u same); remote = sym has.2 }) clash)
-    | inr other ↦
-        (u, insert-In first (filter (λ v. not (same_flow first v)) sessions) u (inr (filter-In (λ v. not (same_flow first v)) sessions u in_u (ap not other))), clash)
+    | inr other ↦ (u, insert-In first (filter (λ v. not (same_flow first v)) sessions) u (inr (filter-In (λ v. not (same_flow first v)) sessions u in_u (ap not other))), clash)
   ]
 
 pub clash-found : (t : Session) (sessions : List Session) → (s : Session) × In s sessions × Clashing t s → is_some (find (clashes t) sessions) ≡ true
-clash-found t sessions is = elim (cases_Bool (is_some (find (clashes t) sessions))) [
-  | inl h ↦ h
-  | inr none ↦ absurd (no_clash t sessions (gone (find (clashes t) sessions) none) is.0 is.1 is.2)
-]
+clash-found t sessions is = elim (cases_Bool (is_some (find (clashes t) sessions))) [ inl h ↦ h | inr none ↦ absurd (no_clash t sessions (gone (find (clashes t) sessions) none) is.0 is.1 is.2) ]
 
 -- none clashes, where none that is held does and the mappings of the first stay
 pub clash-none : (held : List (Option Session)) (first t : Session) → first.remote ≢ t.remote → breaks_mapping t first ≡ false → ¬ AnyClash held t
@@ -97,13 +93,7 @@ pub clash-none : (held : List (Option Session)) (first t : Session) → first.re
 clash-none held first t away keeps_mapping none =
     ap is_some (none_clashes t (put first (listing held)) (λ s in_s clash.
     elim (In-insert first (filter (λ v. not (same_flow first v)) (listing held)) s in_s) [
-      | inl e ↦ elim (subst (Clashing t) e clash) [
-        | inl h ↦ away h.2
-        | inr more ↦ elim more [
-          | inl h ↦ away h.2
-          | inr h ↦ false≢true (sym keeps_mapping ∙ breaks-from t first h)
-        ]
-      ]
+      | inl e ↦ elim (subst (Clashing t) e clash) [ inl h ↦ away h.2 | inr more ↦ elim more [ inl h ↦ away h.2 | inr h ↦ false≢true (sym keeps_mapping ∙ breaks-from t first h) ] ]
       | inr old ↦
           let at = In-listing held s (In-filter (λ v. not (same_flow first v)) (listing held) s old).0 in
           none (record { place = at.0; held = s; is_held = at.1; clash = clash })
@@ -151,8 +141,7 @@ second-none config rules sessions now view first keeps away needs r e =
     let decision = prerouting_verdict config (facts_of config rules sessions now view Lan None view.src view.dst New) rules in
     let there : inside_far config rules sessions now view first sessions ≡ inside_far config rules sessions now view first (put first sessions) =
     sym (given-other first sessions keeps config rules now view first.outside.addr away decision) in
-    ap (λ x. then_with x next) (e ∙ there)
-    ∙ sym (ap (λ c. if c then Err NoSession else then_with (inside_far config rules sessions now view first (put first sessions)) next) needs)
+    ap (λ x. then_with x next) (e ∙ there) ∙ sym (ap (λ c. if c then Err NoSession else then_with (inside_far config rules sessions now view first (put first sessions)) next) needs)
 
 -- ---- the changes give the sessions
 
@@ -172,8 +161,7 @@ abbrev pub GivesHeld : Change → (Session → ℕ → Session) → Held → Typ
 GivesHeld change passed h = (external : Pool) (places : List (Option Session)) (now : ℕ) → get_or places h.slot None ≡ Some h.session → Gives external places now change (passed h.session now)
 
 first-gives : (config : Config) (held : List (Option Session)) (now : ℕ) (view : View) (first : Session) (change : Change) (b : Option Held)
-    → IsFirst config (listing held) view now (option_map (λ (h : Held). h.session) b) first
-    → IfSome b (λ h. get_or held h.slot None ≡ Some h.session)
+    → IsFirst config (listing held) view now (option_map (λ (h : Held). h.session) b) first → IfSome b (λ h. get_or held h.slot None ≡ Some h.session)
     → IfSome b (GivesHeld change (λ s now. passed_by s Inside view.flags now))
     → IfNone b (change ≡ Begin first)
     → length (put first (listing held)) ≤ 65536 → Gives config.external held now change first
@@ -186,8 +174,7 @@ first-gives config held now view first change (Some h) f slot goes begins few = 
 second-gives : (config : Config) (rules : Spelled) (held : List (Option Session)) (now : ℕ) (view : View) (first t : Session) (change before : Change) (b : Option Held)
     → Contains config.external view.dst.addr → 0 < view.dst.port → first.outside ≢ view.dst
     → option_map (λ (h : Held). h.session) b ≡ find (has_outside view.proto view.dst first.outside) (listing held)
-    → IsSecond config rules (put first (listing held)) view now first (option_map (λ (h : Held). h.session) b) t
-    → IfSome b (λ h. get_or held h.slot None ≡ Some h.session)
+    → IsSecond config rules (put first (listing held)) view now first (option_map (λ (h : Held). h.session) b) t → IfSome b (λ h. get_or held h.slot None ≡ Some h.session)
     → IfSome b (GivesHeld change (λ s now. passed_by s Remote view.flags now))
     → IfNone b (change ≡ Begin t)
     → length (put t (put first (listing held))) ≤ 65536 → Gives config.external held now before first → GivesThen config.external held now before first change t
@@ -210,12 +197,9 @@ second-gives config rules held now view first t change before (Some h) at port a
     let other = not_of config.external held now before first gives h.slot h.session slot (λ e. away (sym e ∙ outside)) in
     subst (Gives config.external later now change) (f.goes h.session refl) (goes config.external later now (became.kept h.slot h.session slot other))
 
-second-apart : (config : Config) (rules : Spelled) (held : List (Option Session)) (now : ℕ) (view : View) (first t : Session) (change before : Change) (b : Option Held)
-    → first.outside ≢ view.dst
-    → option_map (λ (h : Held). h.session) b ≡ find (has_outside view.proto view.dst first.outside) (listing held)
-    → IfSome b (λ h. get_or held h.slot None ≡ Some h.session)
-    → IfSome b (λ h. (slot : ℕ) → IsOf change slot → slot ≡ h.slot)
-    → IfNone b (change ≡ Begin t) → Gives config.external held now before first → IsApart held before change
+second-apart : (config : Config) (rules : Spelled) (held : List (Option Session)) (now : ℕ) (view : View) (first t : Session) (change before : Change) (b : Option Held) → first.outside ≢ view.dst
+    → option_map (λ (h : Held). h.session) b ≡ find (has_outside view.proto view.dst first.outside) (listing held) → IfSome b (λ h. get_or held h.slot None ≡ Some h.session)
+    → IfSome b (λ h. (slot : ℕ) → IsOf change slot → slot ≡ h.slot) → IfNone b (change ≡ Begin t) → Gives config.external held now before first → IsApart held before change
 second-apart config rules held now view first t change before None away found slot own begins gives k of = absurd (subst (λ c. IsOf c k) begins of)
 second-apart config rules held now view first t change before (Some h) away found slot own begins gives k of =
     let is = find-In (has_outside view.proto view.dst first.outside) (listing held) h.session (sym found) in

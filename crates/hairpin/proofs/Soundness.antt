@@ -99,10 +99,7 @@ module _ (config : Config) (sessions : List Session) (sound : AreSound config se
   others t = filter (λ u. not (same_flow t u)) sessions
 
   pub put-member : (t u : Session) → Member u (put t sessions) → (u ≡ t) ⊎ (Member u sessions × (same_flow t u ≡ false))
-  put-member t u is = elim (In-insert t (others t) u is) [
-    | inl e ↦ inl e
-    | inr old ↦ let kept = In-filter (λ v. not (same_flow t v)) sessions u old in inr (kept.0, not-true _ kept.1)
-  ]
+  put-member t u is = elim (In-insert t (others t) u is) [ inl e ↦ inl e | inr old ↦ let kept = In-filter (λ v. not (same_flow t v)) sessions u old in inr (kept.0, not-true _ kept.1) ]
 
   -- a session that stands apart from the others may join them
   pub put-sound : (t : Session) → ((s : Session) → Member s sessions → same_flow t s ≡ false → ¬ Clash t s) → length (put t sessions) ≤ 65536 → IsPlaced config t → IsSeen t.proto t.seen
@@ -112,24 +109,12 @@ module _ (config : Config) (sessions : List Session) (sound : AreSound config se
         (λ u in_rest e. let kept = In-filter (λ v. not (same_flow t v)) sessions u in_rest in false≢true (sym (not-true _ kept.1) ∙ keys-flow t u (sym e)))
         (Rises-filter (λ u. not (same_flow t u)) sessions sound.rises);
     apart = λ u v in_u in_v ne clash. elim (put-member t u in_u) [
-      | inl is_u ↦ elim (put-member t v in_v) [
-        | inl is_v ↦ ne (is_u ∙ sym is_v)
-        | inr old_v ↦ apart v old_v.0 old_v.1 (subst (λ x. Clash x v) is_u clash)
-      ]
-      | inr old_u ↦ elim (put-member t v in_v) [
-        | inl is_v ↦ apart u old_u.0 old_u.1 (Clash-sym u t (subst (λ x. Clash u x) is_v clash))
-        | inr old_v ↦ sound.apart u v old_u.0 old_v.0 ne clash
-      ]
+      | inl is_u ↦ elim (put-member t v in_v) [ inl is_v ↦ ne (is_u ∙ sym is_v) | inr old_v ↦ apart v old_v.0 old_v.1 (subst (λ x. Clash x v) is_u clash) ]
+      | inr old_u ↦ elim (put-member t v in_v) [ inl is_v ↦ apart u old_u.0 old_u.1 (Clash-sym u t (subst (λ x. Clash u x) is_v clash)) | inr old_v ↦ sound.apart u v old_u.0 old_v.0 ne clash ]
     ];
     at_most = few;
-    placed = λ u in_u. elim (put-member t u in_u) [
-      | inl is ↦ subst (IsPlaced config) (sym is) placed
-      | inr old ↦ sound.placed u old.0
-    ];
-    seen = λ u in_u. elim (put-member t u in_u) [
-      | inl is ↦ subst (λ (v : Session). IsSeen v.proto v.seen) (sym is) seen
-      | inr old ↦ sound.seen u old.0
-    ];
+    placed = λ u in_u. elim (put-member t u in_u) [ inl is ↦ subst (IsPlaced config) (sym is) placed | inr old ↦ sound.placed u old.0 ];
+    seen = λ u in_u. elim (put-member t u in_u) [ inl is ↦ subst (λ (v : Session). IsSeen v.proto v.seen) (sym is) seen | inr old ↦ sound.seen u old.0 ];
   }
 
   -- it is the only one of its flow
@@ -190,8 +175,7 @@ pub record JoinAll (config : Config) (sessions : List Session) (now : ℕ) (ts :
   pub each : JoinEach config sessions now ts
   pub flows : HaveOwnFlows ts
   pub last : (t : Session) → Member t ts → t.last ≡ now
-  pub keeps : (u : Session) → Member u sessions
-      → (v : Session) × Member v (put_all ts sessions) × (v.proto ≡ u.proto) × (v.inside ≡ u.inside) × (v.outside ≡ u.outside)
+  pub keeps : (u : Session) → Member u sessions → (v : Session) × Member v (put_all ts sessions) × (v.proto ≡ u.proto) × (v.inside ≡ u.inside) × (v.outside ≡ u.outside)
 
 -- what a leg comes to changes a state of these sessions into a sound one, and loses no mapping
 abbrev pub IsFine : Config → List Session → ℕ → Result Passage Cause → Type 0
@@ -217,8 +201,7 @@ module _ (config : Config) (sessions : List Session) (now : ℕ) (t : Session) (
     | inl same ↦
         let has = has_inside-true t.proto t.inside t.remote u same in
         (t, insert-In t (filter (λ v. not (same_flow t v)) sessions) t (inl refl), sym has.0, sym has.1, sym (joins.keeps u in_u same))
-    | inr other ↦
-        (u, insert-In t (filter (λ v. not (same_flow t v)) sessions) u (inr (filter-In (λ v. not (same_flow t v)) sessions u in_u (ap not other))), refl, refl, refl)
+    | inr other ↦ (u, insert-In t (filter (λ v. not (same_flow t v)) sessions) u (inr (filter-In (λ v. not (same_flow t v)) sessions u in_u (ap not other))), refl, refl, refl)
   ]
 
   pub one-joins : JoinAll config sessions now (t ∷ [])

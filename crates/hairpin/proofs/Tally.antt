@@ -60,10 +60,7 @@ module _ (p : Mapping) where
   pub tally-some : (xs : List (Option Session)) → 0 < tally p xs → (slot : ℕ) × (s : Session) × (get_or xs slot None ≡ Some s) × (0 < weight p (Some s))
   tally-some [] lt = absurd (omega arith)
   tally-some (None ∷ xs) lt = let old = tally-some xs (omega arith) in (suc old.0, old.1, old.2, old.3)
-  tally-some (Some s ∷ xs) lt = elim (cases_lt 0 (weight p (Some s))) [
-    | inl here ↦ (zero, s, refl, here)
-    | inr none ↦ let old = tally-some xs (omega arith) in (suc old.0, old.1, old.2, old.3)
-  ]
+  tally-some (Some s ∷ xs) lt = elim (cases_lt 0 (weight p (Some s))) [ inl here ↦ (zero, s, refl, here) | inr none ↦ let old = tally-some xs (omega arith) in (suc old.0, old.1, old.2, old.3) ]
 
 -- what a session weighs, by whether it is translated
 pub weight-translated : (p : Mapping) (s : Session) → same_endpoint s.inside s.outside ≡ false → weight p (Some s) ≡ one_at p (mapping_of s)
