@@ -1,9 +1,9 @@
 -- What a stream reads as is what it was put together from.
-use Rattle.std.proofs.Common.{◌≡◌, ◌≢◌, ℕ, zero, suc, ◌+◌, ◌-◌, ◌<◌, ◌≤◌, ◌^◌, Bool, true, false, cond, ltb, not, ◌||◌, ◌&&◌, List, [], ◌∷◌, ◌++◌, length, take, drop, replicate, Some, None, Result, Ok, Err, refl, sym, ap, ◌∙◌, arith, append_assoc, length-append, length-drop, length-take, nat_eq, subst, inl, inr}
+use Rattle.std.proofs.Common.{◌≡◌, ◌≢◌, ℕ, zero, suc, ◌+◌, ◌-◌, ◌<◌, ◌≤◌, ◌^◌, Bool, true, false, cond, ltb, List, [], ◌∷◌, ◌++◌, length, take, drop, replicate, Result, Ok, Err, refl, sym, ap, ◌∙◌, arith, append_assoc, length-append, length-drop, length-take, nat_eq, subst, inl, inr}
 use Rattle.std.specs.Prelude.{slice_index}
 use Rattle.std.specs.Int.{w32, w64, from_be_bytes}
 use Rattle.std.specs.List.{flat_map}
-use Rattle.std.proofs.lemmas.Bool.{le-ltb, ltb-true, ltb-false, eqb-true}
+use Rattle.std.proofs.lemmas.Bool.{cases_cond, cases_lt, le-ltb, ltb-true, eqb-true}
 use Rattle.std.proofs.lemmas.Nat.{be_bytes_4, be_bytes_8}
 use Rattle.std.proofs.lemmas.List.{append-nil, drop-drop, take-append-drop, get_or-drop, length-replicate, drop-take}
 use Rattle.std.proofs.Math.Seq.{drop-append_seam}
@@ -22,9 +22,10 @@ use Rattle.frames.specs.Answers.{iface_byte}
 use Rattle.frames.specs.Requests.{Next, Whole, Cut, Bad, announced, longest, head_with, head_of, what_of, with_body, next}
 use Rattle.frames.specs.Framing.{EventsAndRest, whole_frames}
 use Rattle.packet.specs.Laws.{AreBytes}
-use Rattle.frames.specs.Streams.{kind_of, interface_of, request_body, longest_body, header, request, FitsFrame, IsNoFrame, header_fault, IsFaulty, IsStream}
+use Rattle.frames.specs.Streams.{kind_of, interface_of, request_body, longest_body, header, request, FitsFrame, IsNoFrame, IsFaulty, IsStream}
 use Rattle.frames.proofs.Frames.{framed_whole, framed_cut, framed_bad}
-use Rattle.frames.proofs.Fronts.{head_stays, next_shorter}
+use Rattle.frames.proofs.Fronts.{head_stays, next_shorter, test_long}
+use Rattle.frames.proofs.Heads.{fault_is, faulted, good_with, interface_at, kind_at, length_at, long_head, moment_at}
 
 -- ---- bytes of bytes
 
@@ -44,32 +45,14 @@ take_bytes (suc n) [] h = λ i. omega arith
 take_bytes (suc n) (x ∷ xs) h = first_byte x (take n xs) (h 0) (take_bytes n xs (λ j. h (suc j)))
 
 -- the first bytes are those of the number that they are
-number_4 : (xs : List ℕ) → AreBytes xs → 4 ≤ length xs → big_bytes 4 (big_number 4 xs) ≡ take 4 xs
-number_4 xs h l =
-    let e : big_number 4 xs ≡ big_number 4 (take 4 xs) = sym (big_from-take 0 4 4 xs (omega arith)) in
-    let n : length (take 4 xs) ≡ 4 = omega (arith, length-take 4 xs) in
-    let f : big_number 4 (take 4 xs) ≡ from_be_bytes w32 (take 4 xs) = omega arith in
-    be_bytes_4 (take 4 xs) (big_number 4 xs) n (take_bytes 4 xs h) (e ∙ f)
+number_front : (n : ℕ) (xs : List ℕ) → ((ys : List ℕ) (x : ℕ) → length ys ≡ n → AreBytes ys → x ≡ big_number n ys → big_bytes n x ≡ ys) → AreBytes xs → n ≤ length xs → big_bytes n (big_number n xs) ≡ take n xs
+number_front n xs back h l = back (take n xs) (big_number n xs) (omega (arith, length-take n xs)) (take_bytes n xs h) (sym (big_from-take 0 n n xs (omega arith)))
 
-number_8 : (xs : List ℕ) → AreBytes xs → 8 ≤ length xs → big_bytes 8 (big_number 8 xs) ≡ take 8 xs
-number_8 xs h l =
-    let e : big_number 8 xs ≡ big_number 8 (take 8 xs) = sym (big_from-take 0 8 8 xs (omega arith)) in
-    let n : length (take 8 xs) ≡ 8 = omega (arith, length-take 8 xs) in
-    let f : big_number 8 (take 8 xs) ≡ from_be_bytes w64 (take 8 xs) = omega arith in
-    be_bytes_8 (take 8 xs) (big_number 8 xs) n (take_bytes 8 xs h) (e ∙ f)
+number_4 : (ys : List ℕ) (x : ℕ) → length ys ≡ 4 → AreBytes ys → x ≡ big_number 4 ys → big_bytes 4 x ≡ ys
+number_4 ys x n h e = be_bytes_4 ys x n h (let f : big_number 4 ys ≡ from_be_bytes w32 ys = omega arith in e ∙ f)
 
--- kind, interface, length and moment at the front of the bytes
-abbrev kind_at : List ℕ → ℕ
-kind_at bytes = slice_index bytes 0
-
-abbrev interface_at : List ℕ → ℕ
-interface_at bytes = slice_index bytes 1
-
-abbrev length_at : List ℕ → ℕ
-length_at bytes = big_number 4 (drop 2 bytes)
-
-abbrev moment_at : List ℕ → ℕ
-moment_at bytes = big_number 8 (drop 6 bytes)
+number_8 : (ys : List ℕ) (x : ℕ) → length ys ≡ 8 → AreBytes ys → x ≡ big_number 8 ys → big_bytes 8 x ≡ ys
+number_8 ys x n h e = be_bytes_8 ys x n h (let f : big_number 8 ys ≡ from_be_bytes w64 ys = omega arith in e ∙ f)
 
 two : (bytes : List ℕ) → 2 ≤ length bytes → bytes ≡ kind_at bytes ∷ interface_at bytes ∷ drop 2 bytes
 two [] l = absurd (omega arith)
@@ -78,8 +61,8 @@ two (a ∷ b ∷ bytes) l = refl
 
 header_is : (bytes : List ℕ) → AreBytes bytes → 14 ≤ length bytes → bytes ≡ header (kind_at bytes) (interface_at bytes) (length_at bytes) (moment_at bytes) ++ drop 14 bytes
 header_is bytes h l =
-    let a : take 4 (drop 2 bytes) ≡ big_bytes 4 (length_at bytes) = sym (number_4 (drop 2 bytes) (drop_bytes 2 bytes h) (omega (arith, length-drop 2 bytes))) in
-    let b : take 8 (drop 6 bytes) ≡ big_bytes 8 (moment_at bytes) = sym (number_8 (drop 6 bytes) (drop_bytes 6 bytes h) (omega (arith, length-drop 6 bytes))) in
+    let a : take 4 (drop 2 bytes) ≡ big_bytes 4 (length_at bytes) = sym (number_front 4 (drop 2 bytes) number_4 (drop_bytes 2 bytes h) (omega (arith, length-drop 2 bytes))) in
+    let b : take 8 (drop 6 bytes) ≡ big_bytes 8 (moment_at bytes) = sym (number_front 8 (drop 6 bytes) number_8 (drop_bytes 6 bytes h) (omega (arith, length-drop 6 bytes))) in
     let c : drop 2 bytes ≡ big_bytes 4 (length_at bytes) ++ drop 6 bytes =
     sym (take-append-drop 4 (drop 2 bytes)) ∙ ap (λ (x : List ℕ). x ++ drop 4 (drop 2 bytes)) a ∙ ap (λ (x : List ℕ). big_bytes 4 (length_at bytes) ++ x) (drop-drop 4 2 bytes) in
     let d : drop 6 bytes ≡ big_bytes 8 (moment_at bytes) ++ drop 14 bytes =
@@ -121,71 +104,32 @@ numbers_are k i kd e = by_tests (nat_eq k 1) (nat_eq k 2) (nat_eq k 3) (nat_eq i
 
 -- ---- a header without a fault
 
-record IsGood (h : Head) (k i len moment : ℕ) (kd : Kind) (len' moment' : ℕ) : Type 0 where
-  announces : announced k i ≡ Ok kd
-  short : len ≤ longest kd
-  len_is : len' ≡ len
-  moment_is : moment' ≡ moment
-
-good_with : (r : Result Kind HeaderFault) (k i len moment : ℕ) (kd : Kind) (len' moment' : ℕ) → announced k i ≡ r → head_with r len moment ≡ head.Frame kd moment' len' → IsGood (head.Frame kd moment' len') k i len moment kd len' moment'
-good_with (Err fault) k i len moment kd len' moment' a e = absurd cc
-good_with (Ok t) k i len moment kd len' moment' a e = tested (ltb (longest t) len) refl e
-  where
-    tested : (b : Bool) → ltb (longest t) len ≡ b → cond b (head.Bad TooLong) (head.Frame t moment len) ≡ head.Frame kd moment' len' → IsGood (head.Frame kd moment' len') k i len moment kd len' moment'
-    tested true h e = absurd cc
-    tested false h e =
-        let x : t ≡ kd = cc in
-        let y : len ≡ len' = cc in
-        let z : moment ≡ moment' = cc in
-        record { announces = a ∙ ap Ok x; short = rw (← x) (ltb-false _ _ h); len_is = sym y; moment_is = sym z }
-
 body_is : (kd : Kind) (body : List ℕ) → length body ≤ longest kd → request_body (what_of kd body) ≡ body
 body_is (kind.Packet iface) body l = refl
 body_is kind.Load body l = refl
 body_is kind.Moment [] l = refl
 body_is kind.Moment (b ∷ body) l = absurd (omega arith)
 
-kind_is : (kd : Kind) (body : List ℕ) → kind_of (what_of kd body) ≡ number_of kd
-kind_is (kind.Packet iface) body = refl
-kind_is kind.Load body = refl
-kind_is kind.Moment body = refl
-
-interface_is : (kd : Kind) (body : List ℕ) → interface_of (what_of kd body) ≡ byte_of kd
-interface_is (kind.Packet iface) body = refl
-interface_is kind.Load body = refl
-interface_is kind.Moment body = refl
-
-longest_is : (kd : Kind) → longest_body (number_of kd) ≡ longest kd
-longest_is (kind.Packet iface) = refl
-longest_is kind.Load = refl
-longest_is kind.Moment = refl
+-- its kind, its interface, and how long a body may be
+kind_is : (kd : Kind) (body : List ℕ) → (kind_of (what_of kd body) ≡ number_of kd) × (interface_of (what_of kd body) ≡ byte_of kd) × (longest_body (number_of kd) ≡ longest kd)
+kind_is (kind.Packet iface) body = (refl, refl, refl)
+kind_is kind.Load body = (refl, refl, refl)
+kind_is kind.Moment body = (refl, refl, refl)
 
 request_is : (k i moment : ℕ) (kd : Kind) (body : List ℕ) → announced k i ≡ Ok kd → length body ≤ longest kd → request (record { moment = moment; what = what_of kd body }) ≡ header k i (length body) moment ++ body
 request_is k i moment kd body a l =
     let n = numbers_are k i kd a in
-    rw (kind_is kd body, interface_is kd body, body_is kd body l, n.0, n.1) refl
+    let is = kind_is kd body in
+    rw (is.0, is.1, body_is kd body l, n.0, n.1) refl
 
 fits_is : (moment : ℕ) (kd : Kind) (body : List ℕ) → moment < 2 ^ 64 → length body ≤ longest kd → FitsFrame (record { moment = moment; what = what_of kd body })
-fits_is moment kd body m l = record { moment = m; body = rw (body_is kd body l, kind_is kd body, longest_is kd) l }
+fits_is moment kd body m l = record { moment = m; body = rw (body_is kd body l, (kind_is kd body).0, (kind_is kd body).2) l }
 
 -- ---- what stands at the front
 
-long_head : (bytes : List ℕ) (h : Head) → head_of bytes ≡ h → h ≢ head.Cut → (14 ≤ length bytes) × (head_with (announced (kind_at bytes) (interface_at bytes)) (length_at bytes) (moment_at bytes) ≡ h)
-unfolding head_of
-long_head bytes h e n = tested (ltb (length bytes) 14) refl e
-  where
-    tested : (b : Bool) → ltb (length bytes) 14 ≡ b → cond b head.Cut (head_with (announced (kind_at bytes) (interface_at bytes)) (length_at bytes) (moment_at bytes)) ≡ h
-        → (14 ≤ length bytes) × (head_with (announced (kind_at bytes) (interface_at bytes)) (length_at bytes) (moment_at bytes) ≡ h)
-    tested true t e = absurd (n (sym e))
-    tested false t e = (ltb-false _ _ t, e)
-
 never_cut : (r : Result Kind HeaderFault) (len moment : ℕ) → head_with r len moment ≢ head.Cut
 never_cut (Err fault) len moment = λ e. absurd cc
-never_cut (Ok k) len moment = tested (ltb (longest k) len)
-  where
-    tested : (b : Bool) → cond b (head.Bad TooLong) (head.Frame k moment len) ≢ head.Cut
-    tested true = λ e. absurd cc
-    tested false = λ e. absurd cc
+never_cut (Ok k) len moment = λ e. elim (cases_cond (ltb (longest k) len) (head.Bad TooLong) (head.Frame k moment len) head.Cut (sym e)) [ inl bad ↦ absurd cc | inr taken ↦ absurd cc ]
 
 long_not_cut : (bytes : List ℕ) → 14 ≤ length bytes → head_of bytes ≢ head.Cut
 unfolding head_of
@@ -196,7 +140,7 @@ frame_is : (bytes lacking : List ℕ) (kd : Kind) (moment len : ℕ) → AreByte
     → (bytes ++ lacking ≡ request (record { moment = moment; what = what_of kd (drop 14 bytes ++ lacking) })) × FitsFrame (record { moment = moment; what = what_of kd (drop 14 bytes ++ lacking) })
 frame_is bytes lacking kd moment len h e l =
     let p = long_head bytes (head.Frame kd moment len) e (λ x. absurd cc) in
-    let g = good_with (announced (kind_at bytes) (interface_at bytes)) (kind_at bytes) (interface_at bytes) (length_at bytes) (moment_at bytes) kd len moment refl p.1 in
+    let g = good_with (announced (kind_at bytes) (interface_at bytes)) (length_at bytes) (moment_at bytes) kd len moment p.1 in
     let body = drop 14 bytes ++ lacking in
     let short : length body ≤ longest kd = rw (l, g.len_is) g.short in
     let a : bytes ++ lacking ≡ header (kind_at bytes) (interface_at bytes) (length_at bytes) (moment_at bytes) ++ body =
@@ -208,31 +152,25 @@ frame_is bytes lacking kd moment len h e l =
 whole_with : (h : Head) (bytes : List ℕ) (event : Event) (rest : List ℕ) → AreBytes bytes → head_of bytes ≡ h → with_body h bytes ≡ Whole event rest → (bytes ≡ request event ++ rest) × FitsFrame event
 whole_with head.Cut bytes event rest h e w = absurd cc
 whole_with (head.Bad fault) bytes event rest h e w = absurd cc
-whole_with (head.Frame kd moment len) bytes event rest h e w = tested (ltb (length bytes) (14 + len)) refl w
-  where
-    tested : (b : Bool) → ltb (length bytes) (14 + len) ≡ b → cond b Cut (Whole (record { moment = moment; what = what_of kd (take len (drop 14 bytes)) }) (drop (14 + len) bytes)) ≡ Whole event rest → (bytes ≡ request event ++ rest) × FitsFrame event
-    tested true t w = absurd cc
-    tested false t w =
-        let long : 14 + len ≤ length bytes = ltb-false _ _ t in
-        let front = take (14 + len) bytes in
-        let body : drop 14 front ≡ take len (drop 14 bytes) = drop-take 14 len bytes in
-        let n : length (drop 14 front ++ []) ≡ len = rw (append-nil (drop 14 front), body) (omega (arith, length-take len (drop 14 bytes), length-drop 14 bytes)) in
-        let e' : head_of front ≡ head.Frame kd moment len = sym (head_stays front (drop (14 + len) bytes) (omega (arith, length-take (14 + len) bytes))) ∙ ap head_of (take-append-drop (14 + len) bytes) ∙ e in
-        let f = frame_is front [] kd moment len (take_bytes (14 + len) bytes h) e' n in
-        let b : drop 14 front ++ [] ≡ take len (drop 14 bytes) = append-nil (drop 14 front) ∙ body in
-        let f' : (front ++ [] ≡ request (record { moment = moment; what = what_of kd (take len (drop 14 bytes)) })) × FitsFrame (record { moment = moment; what = what_of kd (take len (drop 14 bytes)) }) = rw (← b) f in
-        let x : record { moment = moment; what = what_of kd (take len (drop 14 bytes)) } ≡ event = cc in
-        let y : drop (14 + len) bytes ≡ rest = cc in
-        let whole : bytes ≡ request (record { moment = moment; what = what_of kd (take len (drop 14 bytes)) }) ++ drop (14 + len) bytes =
-        sym (take-append-drop (14 + len) bytes) ∙ ap (λ (z : List ℕ). z ++ drop (14 + len) bytes) (sym (append-nil front) ∙ f'.0) in
-        (subst (λ (ev : Event). bytes ≡ request ev ++ rest) x (subst (λ (r : List ℕ). bytes ≡ request (record { moment = moment; what = what_of kd (take len (drop 14 bytes)) }) ++ r) y whole), subst FitsFrame x f'.1)
+whole_with (head.Frame kd moment len) bytes event rest h e w =
+    let p = test_long (ltb (length bytes) (14 + len)) (length bytes) (14 + len) event rest refl w in
+    let long : 14 + len ≤ length bytes = p.0 in
+    let is : Whole (record { moment = moment; what = what_of kd (take len (drop 14 bytes)) }) (drop (14 + len) bytes) ≡ Whole event rest = p.1 in
+    let front = take (14 + len) bytes in
+    let body : drop 14 front ≡ take len (drop 14 bytes) = drop-take 14 len bytes in
+    let n : length (drop 14 front ++ []) ≡ len = rw (append-nil (drop 14 front), body) (omega (arith, length-take len (drop 14 bytes), length-drop 14 bytes)) in
+    let e' : head_of front ≡ head.Frame kd moment len = sym (head_stays front (drop (14 + len) bytes) (omega (arith, length-take (14 + len) bytes))) ∙ ap head_of (take-append-drop (14 + len) bytes) ∙ e in
+    let f = frame_is front [] kd moment len (take_bytes (14 + len) bytes h) e' n in
+    let b : drop 14 front ++ [] ≡ take len (drop 14 bytes) = append-nil (drop 14 front) ∙ body in
+    let f' : (front ++ [] ≡ request (record { moment = moment; what = what_of kd (take len (drop 14 bytes)) })) × FitsFrame (record { moment = moment; what = what_of kd (take len (drop 14 bytes)) }) = rw (← b) f in
+    let x : record { moment = moment; what = what_of kd (take len (drop 14 bytes)) } ≡ event = cc in
+    let y : drop (14 + len) bytes ≡ rest = cc in
+    let whole : bytes ≡ request (record { moment = moment; what = what_of kd (take len (drop 14 bytes)) }) ++ drop (14 + len) bytes =
+    sym (take-append-drop (14 + len) bytes) ∙ ap (λ (z : List ℕ). z ++ drop (14 + len) bytes) (sym (append-nil front) ∙ f'.0) in
+    (subst (λ (ev : Event). bytes ≡ request ev ++ rest) x (subst (λ (r : List ℕ). bytes ≡ request (record { moment = moment; what = what_of kd (take len (drop 14 bytes)) }) ++ r) y whole), subst FitsFrame x f'.1)
 
 cut_with : (h : Head) (bytes : List ℕ) → AreBytes bytes → head_of bytes ≡ h → with_body h bytes ≡ Cut → IsNoFrame bytes
-cut_with head.Cut bytes h e w = tested (ltb (length bytes) 14) refl
-  where
-    tested : (b : Bool) → ltb (length bytes) 14 ≡ b → IsNoFrame bytes
-    tested true t = inl (ltb-true _ _ t)
-    tested false t = absurd (long_not_cut bytes (ltb-false _ _ t) e)
+cut_with head.Cut bytes h e w = elim (cases_lt (length bytes) 14) [ inl short ↦ inl short | inr long ↦ absurd (long_not_cut bytes long e) ]
 cut_with (head.Bad fault) bytes h e w = absurd cc
 cut_with (head.Frame kd moment len) bytes h e w = tested (ltb (length bytes) (14 + len)) refl w
   where
@@ -252,31 +190,8 @@ cut_with (head.Frame kd moment len) bytes h e w = tested (ltb (length bytes) (14
 bad_with : (h : Head) (bytes : List ℕ) (fault : HeaderFault) → with_body h bytes ≡ Bad fault → h ≡ head.Bad fault
 bad_with head.Cut bytes fault w = absurd cc
 bad_with (head.Bad f) bytes fault w = cc
-bad_with (head.Frame kd moment len) bytes fault w = tested (ltb (length bytes) (14 + len)) w
-  where
-    tested : (b : Bool) → cond b Cut (Whole (record { moment = moment; what = what_of kd (take len (drop 14 bytes)) }) (drop (14 + len) bytes)) ≡ Bad fault → head.Frame kd moment len ≡ head.Bad fault
-    tested true w = absurd cc
-    tested false w = absurd cc
-
-too_long : (t : Bool) (fault : HeaderFault) (k : Kind) (m n : ℕ) → cond t (head.Bad TooLong) (head.Frame k m n) ≡ head.Bad fault → cond t (Some TooLong) None ≡ Some fault
-too_long true fault k m n e = cc
-too_long false fault k m n e = absurd cc
-
-faults_by_tests : (a b c z o : Bool) (len moment : ℕ) (fault : HeaderFault)
-    → head_with (cond a (cond z (Ok (kind.Packet Lan)) (cond o (Ok (kind.Packet Wan)) (Err BadInterface))) (cond b (cond z (Ok kind.Load) (Err BadInterface)) (cond c (cond z (Ok kind.Moment) (Err BadInterface)) (Err BadKind)))) len moment ≡ head.Bad fault
-    → cond (not (a || b || c)) (Some BadKind) (cond (not (z || a && o)) (Some BadInterface) (cond (ltb (cond a 65535 (cond b 262144 0)) len) (Some TooLong) None)) ≡ Some fault
-faults_by_tests true b c true o len moment fault e = too_long (ltb 65535 len) fault _ moment len e
-faults_by_tests true b c false true len moment fault e = too_long (ltb 65535 len) fault _ moment len e
-faults_by_tests true b c false false len moment fault e = cc
-faults_by_tests false true c true o len moment fault e = too_long (ltb 262144 len) fault _ moment len e
-faults_by_tests false true c false o len moment fault e = cc
-faults_by_tests false false true true o len moment fault e = too_long (ltb 0 len) fault _ moment len e
-faults_by_tests false false true false o len moment fault e = cc
-faults_by_tests false false false z o len moment fault e = cc
-
-fault_was : (k i len moment : ℕ) (fault : HeaderFault) → head_with (announced k i) len moment ≡ head.Bad fault → header_fault k i len ≡ Some fault
-unfolding header_fault
-fault_was k i len moment fault e = faults_by_tests (nat_eq k 1) (nat_eq k 2) (nat_eq k 3) (nat_eq i 0) (nat_eq i 1) len moment fault e
+bad_with (head.Frame kd moment len) bytes fault w =
+    elim (cases_cond (ltb (length bytes) (14 + len)) Cut (Whole (record { moment = moment; what = what_of kd (take len (drop 14 bytes)) }) (drop (14 + len) bytes)) (Bad fault) (sym w)) [ inl cut ↦ absurd cc | inr whole ↦ absurd cc ]
 
 faulty_was : (bytes : List ℕ) (fault : HeaderFault) → AreBytes bytes → head_of bytes ≡ head.Bad fault → IsFaulty fault bytes
 faulty_was bytes fault h e =
@@ -289,7 +204,7 @@ faulty_was bytes fault h e =
       more = drop 14 bytes;
       bytes_are = header_is bytes h p.0;
       fits = small_length bytes h;
-      faulty = fault_was (kind_at bytes) (interface_at bytes) (length_at bytes) (moment_at bytes) fault p.1;
+      faulty = sym (fault_is (kind_at bytes) (interface_at bytes) (length_at bytes) (moment_at bytes)) ∙ ap faulted p.1;
     }
 
 -- ---- the stream

@@ -1,5 +1,5 @@
 -- Laws of the events of a stream.
-use Rattle.std.proofs.Common.{◌≡◌, ℕ, zero, suc, ◌<◌, ◌≤◌, List, [], ◌∷◌, length, refl, ap, arith}
+use Rattle.std.proofs.Common.{◌≡◌, ℕ, zero, suc, ◌<◌, ◌≤◌, List, [], ◌∷◌, length, refl, ap, ◌∙◌, arith}
 use Rattle.std.proofs.lemmas.List.{nil_from_length}
 use Rattle.machine.specs.declared.event.Event.{Event}
 use Rattle.frames.specs.declared.fault.HeaderFault.{HeaderFault}
@@ -25,28 +25,19 @@ within_same zero (suc m) bytes p q = let none : bytes ≡ [] = nil_from_length b
 within_same (suc n) zero bytes p q = let none : bytes ≡ [] = nil_from_length bytes (omega arith) in rw (none, next_nil) refl
 within_same (suc n) (suc m) bytes p q = go_on_same n m bytes (next bytes) refl (λ rest lt. within_same n m rest (omega arith) (omega arith))
 
+-- what stands at the front, and then the frames of the rest
+framed : (bytes : List ℕ) (front : Next) → next bytes ≡ front → whole_frames bytes ≡ go_on front bytes (λ rest. whole_frames_within (length bytes) rest)
+unfolding whole_frames whole_frames_within
+framed bytes front e = within_same (length bytes) (suc (length bytes)) bytes (omega arith) (omega arith) ∙ ap (λ (f : Next). go_on f bytes (λ rest. whole_frames_within (length bytes) rest)) e
+
 -- the first frame, and then those of the rest
 pub framed_whole : (bytes : List ℕ) (event : Event) (rest : List ℕ) → next bytes ≡ Whole event rest → whole_frames bytes ≡ with_first (event ∷ []) (whole_frames rest)
-unfolding whole_frames whole_frames_within
-framed_whole bytes event rest e = by_length (length bytes) bytes event rest refl e
-  where
-    by_length : (n : ℕ) (bytes : List ℕ) (event : Event) (rest : List ℕ) → length bytes ≡ n → next bytes ≡ Whole event rest → whole_frames_within n bytes ≡ with_first (event ∷ []) (whole_frames_within (length rest) rest)
-    by_length zero bytes event rest l e = absurd (omega (arith, next_shorter bytes event rest e))
-    by_length (suc n) bytes event rest l e = rw e (ap (with_first (event ∷ [])) (within_same n (length rest) rest (omega (arith, next_shorter bytes event rest e)) (omega arith)))
+unfolding whole_frames
+framed_whole bytes event rest e = framed bytes (Whole event rest) e ∙ ap (with_first (event ∷ [])) (within_same (length bytes) (length rest) rest (omega (arith, next_shorter bytes event rest e)) (omega arith))
 
 -- no frame
 pub framed_cut : (bytes : List ℕ) → next bytes ≡ Cut → whole_frames bytes ≡ record { events = []; remainder = Rest bytes }
-unfolding whole_frames whole_frames_within
-framed_cut bytes e = by_length (length bytes) bytes e
-  where
-    by_length : (n : ℕ) (bytes : List ℕ) → next bytes ≡ Cut → whole_frames_within n bytes ≡ record { events = []; remainder = Rest bytes }
-    by_length zero bytes e = refl
-    by_length (suc n) bytes e = rw e refl
+framed_cut bytes e = framed bytes Cut e
 
 pub framed_bad : (bytes : List ℕ) (fault : HeaderFault) → next bytes ≡ Bad fault → whole_frames bytes ≡ record { events = []; remainder = Fault fault }
-unfolding whole_frames whole_frames_within
-framed_bad bytes fault e = by_length (length bytes) bytes fault refl e
-  where
-    by_length : (n : ℕ) (bytes : List ℕ) (fault : HeaderFault) → length bytes ≡ n → next bytes ≡ Bad fault → whole_frames_within n bytes ≡ record { events = []; remainder = Fault fault }
-    by_length zero bytes fault l e = let none : bytes ≡ [] = nil_from_length bytes l in let c : next bytes ≡ Cut = rw none next_nil in absurd cc
-    by_length (suc n) bytes fault l e = rw e refl
+framed_bad bytes fault e = framed bytes (Bad fault) e

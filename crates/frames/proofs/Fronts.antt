@@ -39,18 +39,17 @@ pub record IsWhole (h : Head) (bytes : List ℕ) (rest : List ℕ) : Type 0 wher
   pub long : 14 + len ≤ length bytes
   pub rest_is : rest ≡ drop (14 + len) bytes
 
-whole_test : (c : Bool) (h : Head) (len : ℕ) (bytes : List ℕ) (event event' : Event) (rest : List ℕ) → ltb (length bytes) (14 + len) ≡ c → cond c Cut (Whole event (drop (14 + len) bytes)) ≡ Whole event' rest → IsWhole h bytes rest
-whole_test true h len bytes event event' rest t e = absurd cc
-whole_test false h len bytes event event' rest t e = record { len = len; long = ltb-false _ _ t; rest_is = cc }
+pub test_long : {e : Next} (c : Bool) (n len : ℕ) (event : Event) (rest : List ℕ) → ltb n len ≡ c → cond c Cut e ≡ Whole event rest → (len ≤ n) × (e ≡ Whole event rest)
+test_long true n len event rest t e = absurd cc
+test_long false n len event rest t e = (ltb-false _ _ t, e)
 
 whole_is : (h : Head) (bytes : List ℕ) (event : Event) (rest : List ℕ) → with_body h bytes ≡ Whole event rest → IsWhole h bytes rest
 whole_is head.Cut bytes event rest e = absurd cc
 whole_is (head.Bad fault) bytes event rest e = absurd cc
-whole_is (head.Frame s m len) bytes event rest e = whole_test (ltb (length bytes) (14 + len)) (head.Frame s m len) len bytes (record { moment = m; what = what_of s (take len (drop 14 bytes)) }) event rest refl e
-
-test_long : {e : Next} (c : Bool) (n len : ℕ) (event : Event) (rest : List ℕ) → ltb n len ≡ c → cond c Cut e ≡ Whole event rest → (len ≤ n) × (e ≡ Whole event rest)
-test_long true n len event rest t e = absurd cc
-test_long false n len event rest t e = (ltb-false _ _ t, e)
+whole_is (head.Frame s m len) bytes event rest e =
+    let p = test_long (ltb (length bytes) (14 + len)) (length bytes) (14 + len) event rest refl e in
+    let f : Whole (record { moment = m; what = what_of s (take len (drop 14 bytes)) }) (drop (14 + len) bytes) ≡ Whole event rest = p.1 in
+    record { len = len; long = p.0; rest_is = cc }
 
 with_more : (h : Head) (a b : List ℕ) (event : Event) (rest : List ℕ) → with_body h a ≡ Whole event rest → with_body h (a ++ b) ≡ Whole event (rest ++ b)
 with_more head.Cut a b event rest e = absurd cc

@@ -25,6 +25,7 @@ use Rattle.hairpin.specs.Legs.{by_mapping, is_at, is_taken, lets_in, maps_inside
 use Rattle.sessions.specs.Sound.{IsPlaced}
 use Rattle.hairpin.specs.declared.cause.Cause.{Cause}
 use Rattle.hairpin.specs.declared.cause.Cause.TheVariants.{Filtered, NoMapping, NoPort}
+use Rattle.hairpin.proofs.Pairs.{found-in}
 
 pub cases_endpoint : (e f : Endpoint) → (e ≡ f) ⊎ (e ≢ f)
 cases_endpoint e f = elim (cases_Bool (same_endpoint e f)) [
@@ -41,8 +42,7 @@ maps-parts proto inside s h =
 
 pub maps-from : (proto : Proto) (inside : Endpoint) (s : Session) → s.inside ≢ s.outside → s.proto ≡ proto → s.inside ≡ inside → maps_inside proto inside s ≡ true
 unfolding maps_inside
-maps-from proto inside s away p i =
-    and_from _ _ (and_from _ _ (ap not (differ s.inside s.outside away)) (same_proto-from s.proto proto p)) (same_endpoint-from s.inside inside i)
+maps-from proto inside s away p i = and_from _ _ (and_from _ _ (ap not (differ s.inside s.outside away)) (same_proto-from s.proto proto p)) (same_endpoint-from s.inside inside i)
 
 pub maps_outside-parts : (proto : Proto) (outside : Endpoint) (s : Session) → maps_outside proto outside s ≡ true → (s.inside ≢ s.outside) × (s.proto ≡ proto) × (s.outside ≡ outside)
 unfolding maps_outside
@@ -53,8 +53,7 @@ maps_outside-parts proto outside s h =
 
 pub maps_outside-from : (proto : Proto) (outside : Endpoint) (s : Session) → s.inside ≢ s.outside → s.proto ≡ proto → s.outside ≡ outside → maps_outside proto outside s ≡ true
 unfolding maps_outside
-maps_outside-from proto outside s away p o =
-    and_from _ _ (and_from _ _ (ap not (differ s.inside s.outside away)) (same_proto-from s.proto proto p)) (same_endpoint-from s.outside outside o)
+maps_outside-from proto outside s away p o = and_from _ _ (and_from _ _ (ap not (differ s.inside s.outside away)) (same_proto-from s.proto proto p)) (same_endpoint-from s.outside outside o)
 
 pub at-parts : (proto : Proto) (outside : Endpoint) (s : Session) → is_at proto outside s ≡ true → (s.proto ≡ proto) × (s.outside ≡ outside)
 unfolding is_at
@@ -76,27 +75,16 @@ find-In p (x ∷ xs) s e = elim (cases_Bool (p x)) [
       (inr old.0, old.1)
 ]
 
-pub some_or_none : (o : Option Session) → ((s : Session) × (o ≡ Some s)) ⊎ (o ≡ None)
-some_or_none (Some s) = inl (s, refl)
-some_or_none None = inr refl
-
-is_some-None : (o : Option Session) → o ≡ None → is_some o ≡ true → ⊥
-is_some-None (Some s) e h = none-some s (sym e)
-is_some-None None e h = false≢true h
-
 pub taken-from : (sessions : List Session) (proto : Proto) (addr port : ℕ) (s : Session) → In s sessions → s.proto ≡ proto → s.outside ≡ endpoint addr port → is_taken sessions proto addr port ≡ true
 taken-from sessions proto addr port s is p o =
     let found = find-some (is_at proto (endpoint addr port)) sessions s is (at-from proto (endpoint addr port) s p o) in
     ap is_some found.1
 
 pub taken-by : (sessions : List Session) (proto : Proto) (addr port : ℕ) → is_taken sessions proto addr port ≡ true → (s : Session) × In s sessions × (s.proto ≡ proto) × (s.outside ≡ endpoint addr port)
-taken-by sessions proto addr port h = elim (some_or_none (find (is_at proto (endpoint addr port)) sessions)) [
-  | inl some ↦
-      let is = find-In (is_at proto (endpoint addr port)) sessions some.0 some.1 in
-      let parts = at-parts proto (endpoint addr port) some.0 is.1 in
-      (some.0, is.0, parts.0, parts.1)
-  | inr none ↦ absurd (is_some-None (find (is_at proto (endpoint addr port)) sessions) none h)
-]
+taken-by sessions proto addr port h =
+    let is = found-in (is_at proto (endpoint addr port)) sessions h in
+    let parts = at-parts proto (endpoint addr port) is.0 is.2 in
+    (is.0, is.1, parts.0, parts.1)
 
 -- an external address isn't inside
 pub outside_away : (config : Config) → is_config config ≡ true → (addr : ℕ) → Contains config.external addr → is_inside config addr ≡ true → ⊥
@@ -129,8 +117,7 @@ module _ (sessions : List Session) (apart : (s t : Session) → In s sessions �
         none-some found.0 (sym none ∙ found.1)
 
     -- by a mapping that lives
-    pub mapped_apart : (m : Session) → In m sessions → m.inside ≢ m.outside → m.proto ≡ new.proto → m.inside ≡ new.inside → m.outside ≡ new.outside
-        → s.inside ≢ m.outside → ¬ Clash new s
+    pub mapped_apart : (m : Session) → In m sessions → m.inside ≢ m.outside → m.proto ≡ new.proto → m.inside ≡ new.inside → m.outside ≡ new.outside → s.inside ≢ m.outside → ¬ Clash new s
     mapped_apart m in_m m_away m_proto m_inside m_outside placed (inl h) = fresh h.0 h.1 h.2
     mapped_apart m in_m m_away m_proto m_inside m_outside placed (inr (inl h)) = elim (cases_endpoint s.inside s.outside) [
       | inl plain ↦ placed (plain ∙ h.1 ∙ sym m_outside)
@@ -140,10 +127,7 @@ module _ (sessions : List Session) (apart : (s t : Session) → In s sessions �
     ]
     mapped_apart m in_m m_away m_proto m_inside m_outside placed (inr (inr h)) =
         let same = agree s m in_s in_m h.1 m_away (sym h.2 ∙ sym m_proto) in
-        elim h.3 [
-          | inl i ↦ i.1 (sym (same.0 (sym i.0 ∙ sym m_inside) ∙ m_outside))
-          | inr o ↦ o.1 (sym (same.1 (sym o.0 ∙ sym m_outside) ∙ m_inside))
-        ]
+        elim h.3 [ inl i ↦ i.1 (sym (same.0 (sym i.0 ∙ sym m_inside) ∙ m_outside)) | inr o ↦ o.1 (sym (same.1 (sym o.0 ∙ sym m_outside) ∙ m_inside)) ]
 
     -- at a port that none has
     pub chosen_apart : find (maps_inside new.proto new.inside) sessions ≡ None → is_taken sessions new.proto new.outside.addr new.outside.port ≡ false → ¬ Clash new s

@@ -26,13 +26,7 @@ pub counts_none : (mappings : Mappings) (held : List (Option Session)) → ((p :
 counts_none mappings held unmapped none p = unmapped p ∙ sym (tally-same p held [] none)
 
 none-sound : (config : Config) → AreSound config []
-none-sound config = record {
-  rises = tt;
-  apart = λ s t not_in. absurd not_in;
-  at_most = omega arith;
-  placed = λ s not_in. absurd not_in;
-  seen = λ s not_in. absurd not_in;
-}
+none-sound config = record { rises = tt; apart = λ s t not_in. absurd not_in; at_most = omega arith; placed = λ s not_in. absurd not_in; seen = λ s not_in. absurd not_in }
 
 pub sound_none : (config : Config) (held : List (Option Session)) → ((slot : ℕ) → get_or held slot None ≡ None) → AreSound config (listing held)
 sound_none config held none = subst (AreSound config) (sym (listing-none held none)) (none-sound config)

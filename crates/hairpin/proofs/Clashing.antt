@@ -30,6 +30,3 @@ module _ (held : List (Option Session)) (t : Session) where
   none_found apart = none_clashes t (listing held) (λ s is clash.
       let at = In-listing held s is in
       apart (record { place = at.0; held = s; is_held = at.1; clash = clash }))
-
-  pub no_any : find (clashes t) (listing held) ≡ None → ¬ AnyClash held t
-  no_any none any = no_clash t (listing held) none any.held (listing-In held any.held any.place any.is_held) any.clash

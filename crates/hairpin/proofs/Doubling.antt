@@ -2,7 +2,7 @@
 use Rattle.std.proofs.Common.{◌≡◌, ℕ, ◌+◌, ◌<◌, ◌≤◌, List, [], ◌∷◌, length, Contains, Option, Some, None, is_some, Result, Ok, Err, Bool, true, false, cond, not, nat_lt, if◌then◌else◌, refl, sym, ap, ◌∙◌, subst, inl, inr, arith}
 use Rattle.std.specs.Prelude.{find}
 use Rattle.std.specs.List.{filter}
-use Rattle.std.proofs.lemmas.Bool.{cases_Bool, cases_lt, false≢true, lt-ltb, not-false, not-true, false_from_ne_true}
+use Rattle.std.proofs.lemmas.Bool.{cases_Bool, false≢true, ltb-false, not-false, not-true, false_from_ne_true}
 use Rattle.std.proofs.lemmas.Option.{none-some, same_Some}
 use Rattle.packet.specs.Config.{Config, is_config, is_inside}
 use Rattle.packet.specs.Same.{same_endpoint}
@@ -21,22 +21,23 @@ use Rattle.sessions.specs.declared.session.Session.{Session}
 use Rattle.sessions.proofs.Held.{SameKeys}
 use Rattle.packet.proofs.SameLemmas.{same_endpoint-itself}
 use Rattle.sessions.proofs.Found.{has_outside-true}
-use Rattle.sessions.proofs.Puts.{has_inside-from, has_inside-true, keys-flow, length-insert}
+use Rattle.sessions.proofs.Puts.{has_inside-from, has_inside-true, keys-flow}
 use Rattle.sessions.proofs.Sets.{In-filter, Rises-filter, Rises-insert, insert-In}
 use Rattle.verdict.specs.Hooks.{forward_verdict, prerouting_verdict}
+use Rattle.verdict.specs.declared.facts.Facts.{Facts}
 use Rattle.verdict.specs.declared.facts.State.TheVariants.{New}
 use Rattle.verdict.specs.declared.hook.Destination.{Destination}
 use Rattle.verdict.specs.declared.hook.Destination.TheVariants as destination
 use Rattle.hairpin.specs.Legs.{Passage, begun_second, counted, facts_of, first_by, first_state, forwarded, hairpin_leg, inside_by_rules, inside_far, is_taken, maps_inside, maps_outside, needs_session, new_session, outside_near, passed_by, second, second_by, then_with, through, uses_in}
 use Rattle.hairpin.specs.KeepBounds.{KeepBounds}
-use Rattle.sessions.specs.Sound.{AreSound}
+use Rattle.sessions.specs.Sound.{AreSound, IsPlaced}
 use Rattle.hairpin.specs.declared.cause.Cause.{Cause}
 use Rattle.hairpin.specs.declared.cause.Cause.TheVariants.{Clash, NoSession, Rule, SelfMapped, TableFull}
 use Rattle.hairpin.proofs.Apart.{err-ok, find-In, port-ok, same_Ok, some-mapping}
 use Rattle.hairpin.proofs.Choosing.{near-given}
 use Rattle.hairpin.proofs.Clashing.{no_clash}
 use Rattle.hairpin.proofs.Opening.{Opened, opened_chosen, opened_mapped}
-use Rattle.hairpin.proofs.Soundness.{IsFine, Joins, filter-one, fine-filtered, other-flow, passed-joins, put-known, put-more, put-sound, two-join}
+use Rattle.hairpin.proofs.Soundness.{IsFine, Joins, apart-joins, either, fine-filtered, fine-then, fine-unless, other-flow, passed-joins, put-known, put-more, two-join}
 
 -- ---- a search of the set with one session put in
 
@@ -56,13 +57,7 @@ find-filter p q (x ∷ xs) h = elim (cases_Bool (q x)) [
 
 -- a search finds what it found, where neither the session nor those that it replaces pass
 pub find-put : (p : Session → Bool) (t : Session) (xs : List Session) → p t ≡ false → ((s : Session) → In s xs → same_flow t s ≡ true → p s ≡ false) → find p (put t xs) ≡ find p xs
-find-put p t xs own others = find-insert p t (filter (λ u. not (same_flow t u)) xs) own
-    ∙ find-filter p (λ u. not (same_flow t u)) xs (λ s in_s h. others s in_s (not-false (same_flow t s) h))
-
--- ---- how many sessions there are
-
-pub length-put_most : (t : Session) (xs : List Session) → Rises xs → length xs ≤ length (put t xs)
-length-put_most t xs rises = omega (arith, length-insert t (filter (λ u. not (same_flow t u)) xs), filter-one t xs rises)
+find-put p t xs own others = find-insert p t (filter (λ u. not (same_flow t u)) xs) own ∙ find-filter p (λ u. not (same_flow t u)) xs (λ s in_s h. others s in_s (not-false (same_flow t s) h))
 
 pub Rises-put : (t : Session) (xs : List Session) → Rises xs → Rises (put t xs)
 Rises-put t xs rises = Rises-insert t (filter (λ u. not (same_flow t u)) xs)
@@ -75,12 +70,8 @@ put-In t xs = insert-In t (filter (λ u. not (same_flow t u)) xs) t (inl refl)
 -- ---- a session that goes on
 
 pub passed-keys : (s : Session) (sender : Opener) (flags : Flags) (now : ℕ) → SameKeys s (passed_by s sender flags now)
-passed-keys s sender flags now = elim (cases_Bool (restarts s flags)) [
-  | inl anew ↦ subst (λ b. SameKeys s (if b then restarted s sender now else seen s (shown s.proto s.opener sender flags) now)) (sym anew)
-      (record { proto = refl; inside = refl; outside = refl; remote = refl })
-  | inr on ↦ subst (λ b. SameKeys s (if b then restarted s sender now else seen s (shown s.proto s.opener sender flags) now)) (sym on)
-      (record { proto = refl; inside = refl; outside = refl; remote = refl })
-]
+passed-keys s sender flags now = either (SameKeys s) (restarts s flags) (restarted s sender now) (seen s (shown s.proto s.opener sender flags) now)
+    (record { proto = refl; inside = refl; outside = refl; remote = refl }) (record { proto = refl; inside = refl; outside = refl; remote = refl })
 
 -- it has the flow of the one that it was
 pub passed-flow : (s : Session) (sender : Opener) (flags : Flags) (now : ℕ) → same_flow (passed_by s sender flags now) s ≡ true
@@ -97,9 +88,9 @@ made true cause r next y e = absurd (err-ok cause y e)
 made false cause (Err other) next y e = absurd (err-ok other y e)
 made false cause (Ok a) next y e = (a, refl, e)
 
-unless : {A : Type 0} (b : Bool) (cause : Cause) (x y : A) → (if b then Err cause else Ok x) ≡ Ok y → (b ≡ false) × (x ≡ y)
-unless true cause x y e = absurd (err-ok cause y e)
-unless false cause x y e = (refl, same_Ok x y e)
+unless : {A : Type 0} (b : Bool) (cause : Cause) (r : Result A Cause) (y : A) → (if b then Err cause else r) ≡ Ok y → (b ≡ false) × (r ≡ Ok y)
+unless true cause r y e = absurd (err-ok cause y e)
+unless false cause r y e = (refl, e)
 
 pub gone : (o : Option Session) → is_some o ≡ false → o ≡ None
 gone (Some s) h = absurd (false≢true (sym h))
@@ -138,18 +129,12 @@ module _ (config : Config) (rules : Spelled) (sessions : List Session) (now : �
   new-first : (outside : Endpoint) → find (has_inside view.proto view.src view.dst) sessions ≡ None → Opened config sessions (near_of outside) → IsFirst config sessions view now None (near_of outside)
   new-first outside none opened =
       let t = near_of outside in
-      let other = other-flow t sessions opened.apart in
+      let placed : IsPlaced config t = record { inside = inside; outside = opened.outside; inside_port = src_port; outside_port = opened.port; remote_port = dst_port } in
       record {
         remote = refl;
-        keeps = λ u in_u h. absurd (false≢true (sym (other u in_u) ∙ h));
+        keeps = λ u in_u h. absurd (false≢true (sym (other-flow t sessions opened.apart u in_u) ∙ h));
         many = put-more t sessions opened.apart;
-        joins = λ few. record {
-          sound = put-sound config sessions sound t (λ s in_s away. opened.apart s in_s) few
-              (record { inside = inside; outside = opened.outside; inside_port = src_port; outside_port = opened.port; remote_port = dst_port })
-              (omega arith);
-          last = refl;
-          keeps = λ u in_u h. absurd (false≢true (sym (other u in_u) ∙ h));
-        };
+        joins = λ few. apart-joins config sessions sound t now opened.apart few placed (omega arith) refl;
         begins = λ e. (opened, refl, refl);
         goes = λ s e. absurd (none-some s e);
       }
@@ -180,8 +165,21 @@ module _ (config : Config) (rules : Spelled) (sessions : List Session) (now : �
 
 -- ---- the second leg
 
+-- the inside endpoint that the rules or a mapping give is inside
+pub inside-placed : (config : Config) (rules : Spelled) (sessions : List Session) (now : ℕ) (view : View) (held : List Session) → AreSound config held → KeepBounds config rules → (remote : ℕ) (facts : Facts) → 0 < facts.dst.port
+    → (inside : Endpoint) (d : Destination) → prerouting_verdict config facts rules ≡ d
+    → inside_by_rules config rules sessions now view held remote (find (maps_outside view.proto view.dst) held) d ≡ Ok inside → (is_inside config inside.addr ≡ true) × (0 < inside.port)
+inside-placed config rules sessions now view held sound bounds remote facts port inside destination.None e h =
+    let m = some-mapping config.filtering held remote (find (maps_outside view.proto view.dst) held) inside h in
+    let placed = sound.placed m.0 (find-In (maps_outside view.proto view.dst) held m.0 m.1).0 in
+    subst (λ (x : Endpoint). (is_inside config x.addr ≡ true) × (0 < x.port)) m.2 (placed.inside, placed.inside_port)
+inside-placed config rules sessions now view held sound bounds remote facts port inside (destination.To x) e h =
+    subst (λ (y : Endpoint). (is_inside config y.addr ≡ true) × (0 < y.port)) (same_Ok x inside h) (bounds.to facts x e, bounds.port facts x e port)
+inside-placed config rules sessions now view held sound bounds remote facts port inside destination.Drop e h = absurd (err-ok Rule inside h)
+
 -- the second session, where this one of its flow was found
-pub record IsSecond (config : Config) (rules : Spelled) (held : List Session) (view : View) (now : ℕ) (found : Option Session) (t : Session) : Type 0 where
+pub record IsSecond (config : Config) (rules : Spelled) (held : List Session) (view : View) (now : ℕ) (first : Session) (found : Option Session) (t : Session) : Type 0 where
+  pub remote : t.remote ≡ first.outside
   pub many : length (put t held) ≡ length held + fresh found
   pub joins : AreSound config held → KeepBounds config rules → length (put t held) ≤ 65536 → Joins config held now t
   pub begins : found ≡ None → ((s : Session) → In s held → ¬ Clashing t s) × (t.seen ≡ 0) × (t.last ≡ now) × (t.outside ≡ view.dst)
@@ -192,48 +190,29 @@ module _ (config : Config) (rules : Spelled) (sessions : List Session) (now : �
   abbrev far_of : Endpoint → Session
   far_of inside = new_session config rules sessions now view Remote inside view.dst first.outside
 
-  abbrev decided : Destination
-  decided = prerouting_verdict config (facts_of config rules sessions now view Lan None view.src view.dst New) rules
-
-  -- the inside endpoint of a new session is inside
-  far-placed : AreSound config held → KeepBounds config rules → (inside : Endpoint) → (d : Destination) → decided ≡ d
-      → inside_by_rules config rules sessions now view held first.outside.addr (find (maps_outside view.proto view.dst) held) d ≡ Ok inside → (is_inside config inside.addr ≡ true) × (0 < inside.port)
-  far-placed sound bounds inside destination.None e h =
-      let m = some-mapping config.filtering held first.outside.addr (find (maps_outside view.proto view.dst) held) inside h in
-      let is = find-In (maps_outside view.proto view.dst) held m.0 m.1 in
-      let placed = sound.placed m.0 is.0 in
-      subst (λ (x : Endpoint). (is_inside config x.addr ≡ true) × (0 < x.port)) m.2 (placed.inside, placed.inside_port)
-  far-placed sound bounds inside (destination.To x) e h =
-      let facts = facts_of config rules sessions now view Lan None view.src view.dst New in
-      subst (λ (y : Endpoint). (is_inside config y.addr ≡ true) × (0 < y.port)) (same_Ok x inside h) (bounds.to facts x e, bounds.port facts x e dst_port)
-  far-placed sound bounds inside destination.Drop e h = absurd (err-ok Rule inside h)
-
-  new-second : (inside : Endpoint) → inside_far config rules sessions now view first held ≡ Ok inside → find (clashes (far_of inside)) held ≡ None → IsSecond config rules held view now None (far_of inside)
+  new-second : (inside : Endpoint) → inside_far config rules sessions now view first held ≡ Ok inside → find (clashes (far_of inside)) held ≡ None → IsSecond config rules held view now first None (far_of inside)
   new-second inside way none =
       let t = far_of inside in
       let apart = no_clash t held none in
-      let other = other-flow t held apart in
+      let facts = facts_of config rules sessions now view Lan None view.src view.dst New in
       record {
+        remote = refl;
         many = put-more t held apart;
         joins = λ sound bounds few.
-            let placed = far-placed sound bounds inside decided refl way in
-            record {
-              sound = put-sound config held sound t (λ s in_s away. apart s in_s) few
-                  (record { inside = placed.0; outside = inr at; inside_port = placed.1; outside_port = dst_port; remote_port = (sound.placed first in_first).outside_port })
-                  (omega arith);
-              last = refl;
-              keeps = λ u in_u h. absurd (false≢true (sym (other u in_u) ∙ h));
-            };
+            let there = inside-placed config rules sessions now view held sound bounds first.outside.addr facts dst_port inside (prerouting_verdict config facts rules) refl way in
+            let placed : IsPlaced config t = record { inside = there.0; outside = inr at; inside_port = there.1; outside_port = dst_port; remote_port = (sound.placed first in_first).outside_port } in
+            apart-joins config held sound t now apart few placed (omega arith) refl;
         begins = λ e. (apart, refl, refl, refl);
         goes = λ s e. absurd (none-some s e);
       }
 
-  known-second : (s : Session) → find (has_outside view.proto view.dst first.outside) held ≡ Some s → IsSecond config rules held view now (Some s) (passed_by s Remote view.flags now)
+  known-second : (s : Session) → find (has_outside view.proto view.dst first.outside) held ≡ Some s → IsSecond config rules held view now first (Some s) (passed_by s Remote view.flags now)
   known-second s e =
       let t = passed_by s Remote view.flags now in
       let is = find-In (has_outside view.proto view.dst first.outside) held s e in
       let count : length (put t held) ≡ length held + 0 = omega (arith, put-known t s held rises is.0 (passed-flow s Remote view.flags now)) in
       record {
+        remote = sym (passed-keys s Remote view.flags now).remote ∙ (has_outside-true view.proto view.dst first.outside s is.1).2;
         many = count;
         joins = λ sound bounds few. passed-joins config held sound s Remote view.flags now is.0;
         begins = λ none. absurd (none-some s (sym none));
@@ -241,24 +220,12 @@ module _ (config : Config) (rules : Spelled) (sessions : List Session) (now : �
       }
 
   pub second-is : (found : Option Session) → find (has_outside view.proto view.dst first.outside) held ≡ found → (t : Session) → second_by config rules sessions now view first held found ≡ Ok t
-      → IsSecond config rules held view now found t
-  second-is (Some s) e t h = subst (IsSecond config rules held view now (Some s)) (same_Ok _ _ h) (known-second s e)
+      → IsSecond config rules held view now first found t
+  second-is (Some s) e t h = subst (IsSecond config rules held view now first (Some s)) (same_Ok _ _ h) (known-second s e)
   second-is None e t h =
       let new = made (needs_session view) NoSession (inside_far config rules sessions now view first held) (begun_second config rules sessions now view first held) t h in
-      let free = unless (is_some (find (clashes (far_of new.0)) held)) Clash (far_of new.0) t new.2 in
-      subst (IsSecond config rules held view now None) free.1 (new-second new.0 new.1 (gone (find (clashes (far_of new.0)) held) free.0))
-
-  -- it has the first one's outside endpoint for its remote one
-  pub second-remote : (found : Option Session) → find (has_outside view.proto view.dst first.outside) held ≡ found → (t : Session) → second_by config rules sessions now view first held found ≡ Ok t
-      → t.remote ≡ first.outside
-  second-remote (Some s) e t h =
-      let is = find-In (has_outside view.proto view.dst first.outside) held s e in
-      let has = has_outside-true view.proto view.dst first.outside s is.1 in
-      ap (λ (u : Session). u.remote) (sym (same_Ok _ _ h)) ∙ sym (passed-keys s Remote view.flags now).remote ∙ has.2
-  second-remote None e t h =
-      let new = made (needs_session view) NoSession (inside_far config rules sessions now view first held) (begun_second config rules sessions now view first held) t h in
-      let free = unless (is_some (find (clashes (far_of new.0)) held)) Clash (far_of new.0) t new.2 in
-      ap (λ (u : Session). u.remote) (sym free.1)
+      let free = unless (is_some (find (clashes (far_of new.0)) held)) Clash (Ok (far_of new.0)) t new.2 in
+      subst (IsSecond config rules held view now first None) (same_Ok _ _ free.1) (new-second new.0 new.1 (gone (find (clashes (far_of new.0)) held) free.0))
 
 -- ---- what both legs come to
 
@@ -273,44 +240,30 @@ module _ (config : Config) (rules : Spelled) (sessions : List Session) (now : �
   abbrev behind_both : Session → Session → Result Passage Cause
   behind_both first t = forwarded config rules sessions now view Lan Lan view.src t.inside (first_state config rules sessions now view found_near) (counted config rules sessions now view (through first t))
 
-  fine-counted : (first t : Session) → IsFirst config sessions view now found_near first → IsSecond config rules (put first sessions) view now (found_far first) t → same_flow t first ≡ false
-      → (b : Bool) → nat_lt 65536 (length (put t (put first sessions))) ≡ b → IsFine config sessions now (if b then Err TableFull else Ok (through first t))
-  fine-counted first t f s own true e = tt
-  fine-counted first t f s own false e = elim (cases_lt 65536 (length (put t (put first sessions)))) [
-    | inl many ↦ absurd (false≢true (sym e ∙ lt-ltb 65536 (length (put t (put first sessions))) many))
-    | inr few ↦
-        let joins = f.joins (omega (arith, few, s.many)) in
-        two-join config sessions now first t joins (s.joins joins.sound bounds (omega (arith, few))) own
-  ]
-
   -- the two have different remote endpoints
   own-flows : (first t : Session) → first.remote ≡ view.dst → t.remote ≡ first.outside → same_endpoint first.outside view.dst ≡ false → same_flow t first ≡ false
   own-flows first t near far other = false_from_ne_true _ (λ h.
       let has = has_inside-true t.proto t.inside t.remote first h in
       false≢true (sym other ∙ subst (λ (e : Endpoint). same_endpoint first.outside e ≡ true) (sym far ∙ sym has.2 ∙ near) (same_endpoint-itself first.outside)))
 
-  fine-second : (first : Session) → IsFirst config sessions view now found_near first → same_endpoint first.outside view.dst ≡ false → (r : Result Session Cause) → second_by config rules sessions now view first (put first sessions) (found_far first) ≡ r
-      → IsFine config sessions now (then_with r (behind_both first))
-  fine-second first f other (Err cause) e = tt
-  fine-second first f other (Ok t) e =
-      let s = second-is config rules sessions now view at dst_port first (put first sessions) (Rises-put first sessions sound.rises) (put-In first sessions) (found_far first) refl t e in
-      let far = second-remote config rules sessions now view at dst_port first (put first sessions) (Rises-put first sessions sound.rises) (put-In first sessions) (found_far first) refl t e in
-      let own = own-flows first t f.remote far other in
+  fine-counted : (first t : Session) → IsFirst config sessions view now found_near first → IsSecond config rules (put first sessions) view now first (found_far first) t → same_flow t first ≡ false
+      → IsFine config sessions now (counted config rules sessions now view (through first t))
+  fine-counted first t f s own = fine-unless config sessions now (nat_lt 65536 (length (put t (put first sessions)))) TableFull (Ok (through first t)) (λ room.
+      let few = ltb-false 65536 (length (put t (put first sessions))) room in
+      let joins = f.joins (omega (arith, few, s.many)) in
+      two-join config sessions now first t joins (s.joins joins.sound bounds few) own)
+
+  fine-second : (first t : Session) → IsFirst config sessions view now found_near first → second config rules sessions now view first (put first sessions) ≡ Ok t → IsFine config sessions now (behind_both first t)
+  fine-second first t f e =
+      let way = unless (same_endpoint first.outside view.dst) SelfMapped (second_by config rules sessions now view first (put first sessions) (found_far first)) t e in
+      let s = second-is config rules sessions now view at dst_port first (put first sessions) (Rises-put first sessions sound.rises) (put-In first sessions) (found_far first) refl t way.1 in
       fine-filtered config sessions now (forward_verdict config (facts_of config rules sessions now view Lan (Some Lan) view.src t.inside (first_state config rules sessions now view found_near)) rules)
-      (counted config rules sessions now view (through first t)) (fine-counted first t f s own (nat_lt 65536 (length (put t (put first sessions)))) refl)
-
-  fine-other : (first : Session) → IsFirst config sessions view now found_near first → (b : Bool) → same_endpoint first.outside view.dst ≡ b
-      → IsFine config sessions now (then_with (if b then Err SelfMapped else second_by config rules sessions now view first (put first sessions) (found_far first)) (behind_both first))
-  fine-other first f true e = tt
-  fine-other first f false e = fine-second first f e (second_by config rules sessions now view first (put first sessions) (found_far first)) refl
-
-  fine-first : (r : Result Session Cause) → first_by config rules sessions now view found_near ≡ r
-      → IsFine config sessions now (then_with r (λ first. then_with (second config rules sessions now view first (put first sessions)) (behind_both first)))
-  fine-first (Err cause) e = tt
-  fine-first (Ok first) e =
-      let f = first-is config rules sessions now view is_one sound inside at src_port dst_port found_near refl first e in
-      fine-other first f (same_endpoint first.outside view.dst) refl
+      (counted config rules sessions now view (through first t)) (fine-counted first t f s (own-flows first t f.remote s.remote way.0))
 
   -- a packet that hairpins leaves the sessions sound
   pub fine-hairpin : IsFine config sessions now (hairpin_leg config rules sessions now view)
-  fine-hairpin = fine-first (first_by config rules sessions now view found_near) refl
+  fine-hairpin =
+      let both = λ (first : Session). then_with (second config rules sessions now view first (put first sessions)) (behind_both first) in
+      fine-then config sessions now (first_by config rules sessions now view found_near) both (λ first e.
+      let f = first-is config rules sessions now view is_one sound inside at src_port dst_port found_near refl first e in
+      fine-then config sessions now (second config rules sessions now view first (put first sessions)) (behind_both first) (λ t e2. fine-second first t f e2))

@@ -16,17 +16,10 @@ as_held m p q e is held = subst (λ r. IsOutside m r e) (sym is.0) (subst (λ f.
 
 module _ (p : Mapping) (old new : TakenPorts) where
   -- a port is taken, that was free or taken already
-  pub took_new : Takes old new p.proto p.outside.addr p.outside.port
-      → (q : Proto) (a r : ℕ) → IsTaken new q a r ↔ (IsTaken old q a r ⊎ IsOutsideOf p q (endpoint a r))
+  pub took_new : Takes old new p.proto p.outside.addr p.outside.port → (q : Proto) (a r : ℕ) → IsTaken new q a r ↔ (IsTaken old q a r ⊎ IsOutsideOf p q (endpoint a r))
   took_new takes q a r = (
-    (λ t. elim ((takes q a r).0 t) [
-      | inl was ↦ inl was
-      | inr is ↦ inr (is.0, ap (λ x. endpoint x r) is.1 ∙ ap (endpoint p.outside.addr) is.2)
-    ]),
-    (λ h. elim h [
-      | inl was ↦ (takes q a r).1 (inl was)
-      | inr is ↦ (takes q a r).1 (inr (is.0, ap (λ (e : Endpoint). e.addr) is.1, ap (λ (e : Endpoint). e.port) is.1))
-    ]),
+    (λ t. elim ((takes q a r).0 t) [ inl was ↦ inl was | inr is ↦ inr (is.0, ap (λ x. endpoint x r) is.1 ∙ ap (endpoint p.outside.addr) is.2) ]),
+    (λ h. elim h [ inl was ↦ (takes q a r).1 (inl was) | inr is ↦ (takes q a r).1 (inr (is.0, ap (λ (e : Endpoint). e.addr) is.1, ap (λ (e : Endpoint). e.port) is.1)) ]),
   )
 
 module _ (m : Mappings) (p : Mapping) (old new : TakenPorts) where
@@ -34,10 +27,7 @@ module _ (m : Mappings) (p : Mapping) (old new : TakenPorts) where
   pub freed_none : ((q : Proto) (a r : ℕ) → IsTaken old q a r ↔ (IsOutside m q (endpoint a r) ⊎ IsOutsideOf p q (endpoint a r))) → IsOutside m p.proto p.outside
       → (q : Proto) (a r : ℕ) → IsTaken old q a r ↔ IsOutside m q (endpoint a r)
   freed_none taken held q a r = (
-    (λ t. elim ((taken q a r).0 t) [
-      | inl o ↦ o
-      | inr is ↦ as_held m p q (endpoint a r) is held
-    ]),
+    (λ t. elim ((taken q a r).0 t) [ inl o ↦ o | inr is ↦ as_held m p q (endpoint a r) is held ]),
     (λ o. (taken q a r).1 (inl o)),
   )
 
@@ -58,8 +48,7 @@ module _ (m : Mappings) (p : Mapping) (old new : TakenPorts) where
     ]),
   )
 
-  pub was_taken : ((q : Proto) (a r : ℕ) → IsTaken old q a r ↔ (IsOutside m q (endpoint a r) ⊎ IsOutsideOf p q (endpoint a r)))
-      → IsTaken old p.proto p.outside.addr p.outside.port
+  pub was_taken : ((q : Proto) (a r : ℕ) → IsTaken old q a r ↔ (IsOutside m q (endpoint a r) ⊎ IsOutsideOf p q (endpoint a r))) → IsTaken old p.proto p.outside.addr p.outside.port
   was_taken taken = (taken p.proto p.outside.addr p.outside.port).1 (inr (refl, refl))
 
 -- the outside endpoints once a mapping is held once more
@@ -71,33 +60,20 @@ gained_here old new g p gains lt = elim (cases_Bool (same_mapping p g)) [
 
 gains_outside : (old new : Mappings) (g : Mapping) → Gains old new g → (q : Proto) (e : Endpoint) → IsOutside new q e ↔ (IsOutside old q e ⊎ IsOutsideOf g q e)
 gains_outside old new g gains q e = (
-  (λ h. elim (gained_here old new g (mapping q h.0 e) gains h.1) [
-    | inl was ↦ inl (h.0, was)
-    | inr is ↦ inr (ap (λ (p : Mapping). p.proto) is, ap (λ (p : Mapping). p.outside) is)
-  ]),
-  (λ h. elim h [
-    | inl o ↦ (o.0, omega (arith, o.1, gains (mapping q o.0 e)))
-    | inr is ↦ as_held new g q e is (g.inside, omega (arith, gains g, one_at-itself g))
-  ]),
+  (λ h. elim (gained_here old new g (mapping q h.0 e) gains h.1) [ inl was ↦ inl (h.0, was) | inr is ↦ inr (ap (λ (p : Mapping). p.proto) is, ap (λ (p : Mapping). p.outside) is) ]),
+  (λ h. elim h [ inl o ↦ (o.0, omega (arith, o.1, gains (mapping q o.0 e))) | inr is ↦ as_held new g q e is (g.inside, omega (arith, gains g, one_at-itself g)) ]),
 )
 
 module _ (old new : Mappings) (p : Mapping) (ports ports' : TakenPorts) (follows : Follows old ports) where
   pub after_hold : IsExternal ports.external p.outside → Gains old new p → ports'.external ≡ ports.external
-      → ((q : Proto) (a r : ℕ) → IsTaken ports' q a r ↔ (IsTaken ports q a r ⊎ IsOutsideOf p q (endpoint a r)))
-      → Follows new ports'
+      → ((q : Proto) (a r : ℕ) → IsTaken ports' q a r ↔ (IsTaken ports q a r ⊎ IsOutsideOf p q (endpoint a r))) → Follows new ports'
   after_hold at gains same taken = record {
     taken = λ q a r.
         let t = taken q a r in
         let f = follows.taken q a r in
         let g = gains_outside old new p gains q (endpoint a r) in (
-          (λ h. g.1 (elim (t.0 h) [
-            | inl was ↦ inl (f.0 was)
-            | inr is ↦ inr is
-          ])),
-          (λ h. t.1 (elim (g.0 h) [
-            | inl held ↦ inl (f.1 held)
-            | inr is ↦ inr is
-          ])),
+          (λ h. g.1 (elim (t.0 h) [ inl was ↦ inl (f.0 was) | inr is ↦ inr is ])),
+          (λ h. t.1 (elim (g.0 h) [ inl held ↦ inl (f.1 held) | inr is ↦ inr is ])),
         );
     placed = λ x lt. subst (λ (xs : List ℕ). IsExternal xs x.outside) (sym same) (elim (gained_here old new p x gains lt) [
       | inl was ↦ follows.placed x was
@@ -105,20 +81,14 @@ module _ (old new : Mappings) (p : Mapping) (ports ports' : TakenPorts) (follows
     ]);
   }
 
-  pub before_release : Gains new old p
-      → (q : Proto) (a r : ℕ) → IsTaken ports q a r ↔ (IsOutside new q (endpoint a r) ⊎ IsOutsideOf p q (endpoint a r))
+  pub before_release : Gains new old p → (q : Proto) (a r : ℕ) → IsTaken ports q a r ↔ (IsOutside new q (endpoint a r) ⊎ IsOutsideOf p q (endpoint a r))
   before_release loses q a r =
       let t = follows.taken q a r in
       let g = gains_outside new old p loses q (endpoint a r) in
       ((λ h. g.0 (t.0 h)), (λ h. t.1 (g.1 h)))
 
-  pub after_release : Gains new old p → ports'.external ≡ ports.external
-      → ((q : Proto) (a r : ℕ) → IsTaken ports' q a r ↔ IsOutside new q (endpoint a r))
-      → Follows new ports'
-  after_release loses same taken = record {
-    taken = taken;
-    placed = λ x lt. subst (λ (xs : List ℕ). IsExternal xs x.outside) (sym same) (follows.placed x (omega (arith, loses x)));
-  }
+  pub after_release : Gains new old p → ports'.external ≡ ports.external → ((q : Proto) (a r : ℕ) → IsTaken ports' q a r ↔ IsOutside new q (endpoint a r)) → Follows new ports'
+  after_release loses same taken = record { taken = taken; placed = λ x lt. subst (λ (xs : List ℕ). IsExternal xs x.outside) (sym same) (follows.placed x (omega (arith, loses x))) }
 
 -- the same mappings and the same ports
 pub follows-same : (old new : Mappings) (ports ports' : TakenPorts) → Follows old ports → SameTimes old new → SameTaken ports ports' → ports'.external ≡ ports.external → Follows new ports'
@@ -132,8 +102,7 @@ follows-same old new ports ports' follows times_same taken_same same = record {
   placed = λ x lt. subst (λ (xs : List ℕ). IsExternal xs x.outside) (sym same) (follows.placed x (omega (arith, times_same x)));
 }
 
-pub follows-none : (m : Mappings) (ports : TakenPorts) → ((p : Mapping) → times m p ≡ 0)
-    → ((q : Proto) (a r : ℕ) → ¬ IsTaken ports q a r) → Follows m ports
+pub follows-none : (m : Mappings) (ports : TakenPorts) → ((p : Mapping) → times m p ≡ 0) → ((q : Proto) (a r : ℕ) → ¬ IsTaken ports q a r) → Follows m ports
 follows-none m ports none free = record {
   taken = λ q a r. ((λ t. absurd (free q a r t)), (λ h. absurd (omega (arith, h.1, none (mapping q h.0 (endpoint a r))))));
   placed = λ p lt. absurd (omega (arith, none p));

@@ -1,7 +1,7 @@
 -- What a packet from a remote endpoint comes to, from what is looked up, and that it may join the sessions.
-use Rattle.std.proofs.Common.{◌≡◌, ◌≢◌, ◌⊎◌, ℕ, ◌+◌, ◌<◌, ◌≤◌, List, length, Contains, Option, Some, None, Result, Ok, Err, count_by, is_some, true, false, nat_lt, if◌then◌else◌, refl, sym, ap, ◌∙◌, subst, inl, inr, arith}
+use Rattle.std.proofs.Common.{◌≡◌, ◌≢◌, ◌⊎◌, ℕ, ◌+◌, ◌<◌, ◌≤◌, List, length, Contains, Option, Some, None, Result, Ok, Err, count_by, is_some, Bool, true, false, nat_lt, if◌then◌else◌, refl, sym, ap, ◌∙◌, subst, inl, inr, arith}
 use Rattle.std.specs.Prelude.{find}
-use Rattle.std.proofs.lemmas.Bool.{cases_Bool, false≢true, le-ltb, lt-ltb, ltb-false}
+use Rattle.std.proofs.lemmas.Bool.{cases_Bool, false≢true, le-ltb, lt-ltb}
 use Rattle.packet.specs.Config.{Config, is_config, is_inside}
 use Rattle.packet.specs.declared.endpoint.Endpoint.{Endpoint}
 use Rattle.packet.specs.declared.endpoint.Iface.TheVariants.{Lan, Wan}
@@ -13,7 +13,7 @@ use Rattle.sessions.specs.declared.session.Change.TheVariants.{Begin}
 use Rattle.sessions.specs.declared.session.Opener.TheVariants.{Remote}
 use Rattle.sessions.specs.declared.session.Session.{Session}
 use Rattle.sessions.proofs.Clashing.{apart-from}
-use Rattle.sessions.proofs.Puts.{has_inside-true, length-listing}
+use Rattle.sessions.proofs.Puts.{length-listing}
 use Rattle.verdict.specs.Hooks.{forward_verdict, prerouting_verdict}
 use Rattle.verdict.specs.declared.facts.State.TheVariants.{New}
 use Rattle.verdict.specs.declared.hook.Destination.{Destination}
@@ -21,15 +21,15 @@ use Rattle.verdict.specs.declared.hook.Destination.TheVariants as destination
 use Rattle.verdict.specs.declared.hook.Forwarding.{Forwarding}
 use Rattle.verdict.specs.declared.hook.Forwarding.TheVariants as forwarding
 use Rattle.hairpin.specs.Legs.{Passage, begun_in, by_mapping, counted, facts_of, in_by, in_leg, inside_by_rules, inside_for, inward, maps_outside, needs_session, new_session, passed_by, connection_of, then_with, unless_dropped}
-use Rattle.hairpin.specs.Plans.{IsPlanOf, MayBegin}
+use Rattle.hairpin.specs.Plans.{MayBegin, Plans}
 use Rattle.hairpin.specs.KeepBounds.{KeepBounds}
-use Rattle.sessions.specs.Sound.{AreSound}
+use Rattle.sessions.specs.Sound.{AreSound, IsPlaced}
 use Rattle.hairpin.specs.declared.cause.Cause.{Cause}
 use Rattle.hairpin.specs.declared.cause.Cause.TheVariants.{Clash, NoSession, Rule, TableFull}
-use Rattle.hairpin.specs.declared.plan.Plan.{Plan}
-use Rattle.hairpin.proofs.Apart.{err-ok, find-In, same_Ok, some-mapping, some_or_none}
+use Rattle.hairpin.proofs.Apart.{find-In, same_Ok}
 use Rattle.hairpin.proofs.Clashing.{any_found, no_clash, none_found}
-use Rattle.hairpin.proofs.Soundness.{IsFine, fine-filtered, one-joins, passed-joins, put-more, put-sound}
+use Rattle.hairpin.proofs.Doubling.{gone, inside-placed}
+use Rattle.hairpin.proofs.Soundness.{IsFine, fine-filtered, fine-one, fine-then, fine-unless, one-joins, passed-joins, put-more}
 
 module _ (config : Config) (rules : Spelled) (sessions : List Session) (now : ℕ) (view : View) where
   -- what the rules and the mapping of the destination give
@@ -44,8 +44,7 @@ module _ (config : Config) (rules : Spelled) (sessions : List Session) (now : �
       ap (λ b. if b then Ok view.dst else given verdict) far ∙ ap given asked
 
   pub inside-near : is_inside config view.dst.addr ≡ true → inside_for config rules sessions now view ≡ Ok view.dst
-  inside-near near =
-      ap (λ b. if b then Ok view.dst else given (prerouting_verdict config (facts_of config rules sessions now view Wan None view.src view.dst New) rules)) near
+  inside-near near = ap (λ b. if b then Ok view.dst else given (prerouting_verdict config (facts_of config rules sessions now view Wan None view.src view.dst New) rules)) near
 
   pub is-near : (inside : Endpoint) → is_inside config view.dst.addr ≡ true → Ok inside ≡ inside_for config rules sessions now view → inside ≡ view.dst
   is-near inside near is = same_Ok inside view.dst (is ∙ inside-near near)
@@ -54,147 +53,87 @@ module _ (config : Config) (rules : Spelled) (sessions : List Session) (now : �
   pub in-new : find (has_outside view.proto view.dst view.src) sessions ≡ None → needs_session view ≡ false
       → (r : Result Endpoint Cause) → inside_for config rules sessions now view ≡ r → in_leg config rules sessions now view ≡ then_with r (begun_in config rules sessions now view)
   in-new none needs r is =
-      ap (in_by config rules sessions now view) none
-      ∙ ap (λ b. if b then Err NoSession else then_with (inside_for config rules sessions now view) (begun_in config rules sessions now view)) needs
+      ap (in_by config rules sessions now view) none ∙ ap (λ b. if b then Err NoSession else then_with (inside_for config rules sessions now view) (begun_in config rules sessions now view)) needs
       ∙ ap (λ way. then_with way (begun_in config rules sessions now view)) is
 
 -- a session that begins to this inside endpoint
-module _ (config : Config) (rules : Spelled) (held : List (Option Session)) (now : ℕ) (view : View) (inside : Endpoint) where
-  abbrev pub begun : Session
-  begun = new_session config rules (listing held) now view Remote inside view.dst view.src
-
-  abbrev pub plan : Plan
-  plan = record { first = Begin begun; second = None; src = view.src; dst = inside; iface = Lan }
-
-  abbrev pub filtered : Forwarding
+module _ (config : Config) (rules : Spelled) (held : List (Option Session)) (now : ℕ) (view : View) (inside : Endpoint) (t : Session) (is : t ≡ new_session config rules (listing held) now view Remote inside view.dst view.src) where
+  abbrev filtered : Forwarding
   filtered = forward_verdict config (facts_of config rules (listing held) now view Wan (Some Lan) view.src inside New) rules
 
-  abbrev pub way : Result Passage Cause
+  abbrev way : Result Passage Cause
   way = begun_in config rules (listing held) now view inside
 
-  abbrev pub behind : Result Passage Cause
-  behind = counted config rules (listing held) now view (inward begun)
+  abbrev behind : Session → Result Passage Cause
+  behind u = unless_dropped filtered (counted config rules (listing held) now view (inward u))
 
-  pub begun-clash : AnyClash held begun → way ≡ Err Clash
-  begun-clash any = ap (λ b. if b then Err Clash else unless_dropped filtered behind) (any_found held begun any)
+  asked : (b : Bool) → is_some (find (clashes t) (listing held)) ≡ b → way ≡ (if b then Err Clash else behind t)
+  asked b e = ap (λ (u : Session). if is_some (find (clashes u) (listing held)) then Err Clash else behind u) (sym is) ∙ ap (λ c. if c then Err Clash else behind t) e
 
-  module _ (apart : ¬ AnyClash held begun) where
-    asked : way ≡ unless_dropped filtered behind
-    asked = ap (λ b. if b then Err Clash else unless_dropped filtered behind) (ap is_some (none_found held begun apart))
+  pub begun-clash : AnyClash held t → Plans config.external held now (Err Clash) way
+  begun-clash any = subst (Plans config.external held now (Err Clash)) (sym (asked true (any_found held t any))) refl
 
-    pub begun-dropped : filtered ≡ forwarding.Drop → way ≡ Err Rule
-    begun-dropped is = asked ∙ ap (λ f. unless_dropped f behind) is
+  module _ (apart : ¬ AnyClash held t) where
+    decided : (d : Forwarding) → filtered ≡ d → way ≡ unless_dropped d (counted config rules (listing held) now view (inward t))
+    decided d e = asked false (ap is_some (none_found held t apart)) ∙ ap (λ f. unless_dropped f (counted config rules (listing held) now view (inward t))) e
 
-    counts : length (put begun (listing held)) ≡ count_by is_some held + 1
-    counts = put-more begun (listing held) (no_clash begun (listing held) (none_found held begun apart)) ∙ ap (λ n. n + 1) (length-listing held)
+    pub begun-dropped : filtered ≡ forwarding.Drop → Plans config.external held now (Err Rule) way
+    begun-dropped e = subst (Plans config.external held now (Err Rule)) (sym (decided forwarding.Drop e)) refl
 
-    pub begun-full : filtered ≡ forwarding.Pass → count_by is_some held ≡ 65536 → way ≡ Err TableFull
-    begun-full is full =
-        let many : nat_lt 65536 (length (put begun (listing held))) ≡ true = lt-ltb 65536 (length (put begun (listing held))) (omega (arith, counts, full)) in
-        asked ∙ ap (λ f. unless_dropped f behind) is ∙ ap (λ b. if b then Err TableFull else Ok (inward begun)) many
+    counts : length (put t (listing held)) ≡ count_by is_some held + 1
+    counts = put-more t (listing held) (no_clash t (listing held) (none_found held t apart)) ∙ ap (λ n. n + 1) (length-listing held)
 
-    pub begun-passes : filtered ≡ forwarding.Pass → length (listing held) ≤ 65536 → count_by is_some held ≢ 65536 → way ≡ Ok (inward begun)
-    begun-passes is most few =
+    pub begun-full : filtered ≡ forwarding.Pass → count_by is_some held ≡ 65536 → Plans config.external held now (Err TableFull) way
+    begun-full e full =
+        let many : nat_lt 65536 (length (put t (listing held))) ≡ true = lt-ltb 65536 (length (put t (listing held))) (omega (arith, counts, full)) in
+        subst (Plans config.external held now (Err TableFull)) (sym (decided forwarding.Pass e ∙ ap (λ b. if b then Err TableFull else Ok (inward t)) many)) refl
+
+    pub begun-plans : filtered ≡ forwarding.Pass → length (listing held) ≤ 65536 → count_by is_some held ≢ 65536 → (inside ≡ view.dst) ⊎ (Contains config.external view.dst.addr × (0 < view.dst.port))
+        → Plans config.external held now (Ok (record { first = Begin t; second = None; src = view.src; dst = inside; iface = Lan })) way
+    begun-plans e most few placed =
         let same = length-listing held in
         let below : count_by is_some held < 65536 = omega (arith, same, most, few) in
-        let room : nat_lt 65536 (length (put begun (listing held))) ≡ false = le-ltb 65536 (length (put begun (listing held))) (omega (arith, counts, below)) in
-        asked ∙ ap (λ f. unless_dropped f behind) is ∙ ap (λ b. if b then Err TableFull else Ok (inward begun)) room
-
-    pub begun-plan : count_by is_some held ≢ 65536 → (inside ≡ view.dst) ⊎ (Contains config.external view.dst.addr × (0 < view.dst.port))
-        → IsPlanOf config.external held now plan (inward begun)
-    begun-plan few placed =
-        let may : MayBegin config.external held now begun = record {
+        let room : nat_lt 65536 (length (put t (listing held))) ≡ false = le-ltb 65536 (length (put t (listing held))) (omega (arith, counts, below)) in
+        let may : MayBegin config.external held now t = subst (MayBegin config.external held now) (sym is) (record {
           unseen = refl;
           last = refl;
-          apart = apart;
+          apart = subst (λ (u : Session). ¬ AnyClash held u) is apart;
           few = few;
           placed = λ away. elim placed [ inl same ↦ absurd (apart-from inside view.dst away same) | inr there ↦ there ];
-        } in
-        record { sessions = (begun, (refl, may), refl); src = refl; dst = refl; iface = refl }
+        }) in
+        subst (Plans config.external held now (Ok (record { first = Begin t; second = None; src = view.src; dst = inside; iface = Lan }))) (sym (decided forwarding.Pass e ∙ ap (λ b. if b then Err TableFull else Ok (inward t)) room))
+        (record { sessions = (t, (refl, may), refl); src = ap (λ (u : Session). u.remote) (sym is); dst = ap (λ (u : Session). u.inside) (sym is); iface = refl })
 
 -- ---- what the leg comes to may join sessions that are sound
 
 module _ (config : Config) (rules : Spelled) (sessions : List Session) (now : ℕ) (view : View) (sound : AreSound config sessions) (bounded : KeepBounds config rules)
     (routed : (is_inside config view.dst.addr ≡ true) ⊎ Contains config.external view.dst.addr) (src_port : 0 < view.src.port) (dst_port : 0 < view.dst.port) where
+  abbrev new : Endpoint → Session
+  new inside = new_session config rules sessions now view Remote inside view.dst view.src
+
   -- an inside endpoint that is found is inside, and the destination stands for it
-  record Found (inside : Endpoint) : Type 0 where
-    near : is_inside config inside.addr ≡ true
-    port : 0 < inside.port
-    at : (inside ≡ view.dst) ⊎ Contains config.external view.dst.addr
-
-  found-by_mapping : Contains config.external view.dst.addr → (inside : Endpoint)
-      → by_mapping config.filtering sessions view.src.addr (find (maps_outside view.proto view.dst) sessions) ≡ Ok inside → Found inside
-  found-by_mapping away inside is =
-      let m = some-mapping config.filtering sessions view.src.addr (find (maps_outside view.proto view.dst) sessions) inside is in
-      let placed = sound.placed m.0 (find-In (maps_outside view.proto view.dst) sessions m.0 m.1).0 in
-      record {
-        near = subst (λ (i : Endpoint). is_inside config i.addr ≡ true) m.2 placed.inside;
-        port = subst (λ (i : Endpoint). 0 < i.port) m.2 placed.inside_port;
-        at = inr away;
-      }
-
-  found-by_rules : Contains config.external view.dst.addr → (inside : Endpoint) (d : Destination) → prerouting_verdict config (facts_of config rules sessions now view Wan None view.src view.dst New) rules ≡ d
-      → given config rules sessions now view d ≡ Ok inside → Found inside
-  found-by_rules away inside destination.None e is = found-by_mapping away inside is
-  found-by_rules away inside (destination.To to) e is =
-      let facts = facts_of config rules sessions now view Wan None view.src view.dst New in
-      let same = same_Ok to inside is in
-      record {
-        near = subst (λ (i : Endpoint). is_inside config i.addr ≡ true) same (bounded.to facts to e);
-        port = subst (λ (i : Endpoint). 0 < i.port) same (bounded.port facts to e dst_port);
-        at = inr away;
-      }
-  found-by_rules away inside destination.Drop e is = absurd (err-ok Rule inside is)
-
-  found : (inside : Endpoint) → inside_for config rules sessions now view ≡ Ok inside → Found inside
+  found : (inside : Endpoint) → inside_for config rules sessions now view ≡ Ok inside → IsPlaced config (new inside)
   found inside is = elim (cases_Bool (is_inside config view.dst.addr)) [
-    | inl near ↦
-        let same = is-near config rules sessions now view inside near (sym is) in
-        record {
-          near = subst (λ (i : Endpoint). is_inside config i.addr ≡ true) (sym same) near;
-          port = subst (λ (i : Endpoint). 0 < i.port) (sym same) dst_port;
-          at = inl same;
-        }
+    | inl near ↦ subst (λ (i : Endpoint). IsPlaced config (new i)) (sym (is-near config rules sessions now view inside near (sym is)))
+        (record { inside = near; outside = inl refl; inside_port = dst_port; outside_port = dst_port; remote_port = src_port })
     | inr far ↦ elim routed [
       | inl near ↦ absurd (false≢true (sym far ∙ near))
       | inr away ↦
-          let verdict = prerouting_verdict config (facts_of config rules sessions now view Wan None view.src view.dst New) rules in
-          let by = given config rules sessions now view verdict in
-          found-by_rules away inside verdict refl (sym (ap (λ b. if b then Ok view.dst else by) far) ∙ is)
+          let facts = facts_of config rules sessions now view Wan None view.src view.dst New in
+          let by = given config rules sessions now view (prerouting_verdict config facts rules) in
+          let there = inside-placed config rules sessions now view sessions sound bounded view.src.addr facts dst_port inside (prerouting_verdict config facts rules) refl (sym (ap (λ b. if b then Ok view.dst else by) far) ∙ is) in
+          record { inside = there.0; outside = inr away; inside_port = there.1; outside_port = dst_port; remote_port = src_port }
     ]
   ]
 
-  fine-begun : (inside : Endpoint) → Found inside → IsFine config sessions now (begun_in config rules sessions now view inside)
-  fine-begun inside there =
-      let t = new_session config rules sessions now view Remote inside view.dst view.src in
+  fine-begun : (inside : Endpoint) → IsPlaced config (new inside) → IsFine config sessions now (begun_in config rules sessions now view inside)
+  fine-begun inside placed =
+      let t = new inside in
       let filtered = forward_verdict config (facts_of config rules sessions now view Wan (Some Lan) view.src inside New) rules in
       let behind = counted config rules sessions now view (inward t) in
-      elim (some_or_none (find (clashes t) sessions)) [
-        | inl some ↦ subst (λ b. IsFine config sessions now (if b then Err Clash else unless_dropped filtered behind)) (sym (ap is_some some.1)) tt
-        | inr none ↦ subst (λ b. IsFine config sessions now (if b then Err Clash else unless_dropped filtered behind)) (sym (ap is_some none))
-            (fine-filtered config sessions now filtered behind (elim (cases_Bool (nat_lt 65536 (length (put t sessions)))) [
-              | inl full ↦ subst (λ b. IsFine config sessions now (if b then Err TableFull else Ok (inward t))) (sym full) tt
-              | inr room ↦ subst (λ b. IsFine config sessions now (if b then Err TableFull else Ok (inward t))) (sym room)
-                  (one-joins config sessions now t (record {
-                    sound = put-sound config sessions sound t (λ s in_s other. no_clash t sessions none s in_s)
-                        (omega (arith, ltb-false 65536 (length (put t sessions)) room))
-                        (record {
-                          inside = there.near;
-                          outside = elim there.at [ inl same ↦ inl (sym same) | inr away ↦ inr away ];
-                          inside_port = there.port;
-                          outside_port = dst_port;
-                          remote_port = src_port;
-                        })
-                        (omega arith);
-                    last = refl;
-                    keeps = λ u in_u same. absurd (no_clash t sessions none u in_u (inl (has_inside-true t.proto t.inside t.remote u same)));
-                  }))
-            ]))
-      ]
-
-  fine-new : (r : Result Endpoint Cause) → inside_for config rules sessions now view ≡ r → IsFine config sessions now (then_with r (begun_in config rules sessions now view))
-  fine-new (Err cause) e = tt
-  fine-new (Ok inside) e = fine-begun inside (found inside e)
+      fine-unless config sessions now (is_some (find (clashes t) sessions)) Clash (unless_dropped filtered behind) (λ free.
+      let apart = no_clash t sessions (gone (find (clashes t) sessions) free) in
+      fine-filtered config sessions now filtered behind (fine-one config sessions sound now t view.src inside Lan apart placed (omega arith) refl))
 
   fine-by : (o : Option Session) → find (has_outside view.proto view.dst view.src) sessions ≡ o → IsFine config sessions now (in_by config rules sessions now view o)
   fine-by (Some s) e =
@@ -202,11 +141,9 @@ module _ (config : Config) (rules : Spelled) (sessions : List Session) (now : �
       fine-filtered config sessions now (forward_verdict config (facts_of config rules sessions now view Wan (Some Lan) view.src s.inside (connection_of s Remote view.flags)) rules) (Ok (inward t))
       (one-joins config sessions now t (passed-joins config sessions sound s Remote view.flags now (find-In (has_outside view.proto view.dst view.src) sessions s e).0))
   fine-by None e =
-      let new = then_with (inside_for config rules sessions now view) (begun_in config rules sessions now view) in
-      elim (cases_Bool (needs_session view)) [
-        | inl needs ↦ subst (λ b. IsFine config sessions now (if b then Err NoSession else new)) (sym needs) tt
-        | inr free ↦ subst (λ b. IsFine config sessions now (if b then Err NoSession else new)) (sym free) (fine-new (inside_for config rules sessions now view) refl)
-      ]
+      let way = begun_in config rules sessions now view in
+      fine-unless config sessions now (needs_session view) NoSession (then_with (inside_for config rules sessions now view) way) (λ free.
+      fine-then config sessions now (inside_for config rules sessions now view) way (λ inside is. fine-begun inside (found inside is)))
 
 pub fine-in : (config : Config) (rules : Spelled) (sessions : List Session) (now : ℕ) (view : View) → is_config config ≡ true → AreSound config sessions → KeepBounds config rules
     → (is_inside config view.dst.addr ≡ true) ⊎ Contains config.external view.dst.addr → 0 < view.src.port → 0 < view.dst.port → IsFine config sessions now (in_leg config rules sessions now view)

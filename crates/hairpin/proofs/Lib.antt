@@ -13,4 +13,3 @@ pub mod Same
 pub mod Soundness
 pub mod Strangers
 pub mod Tally
-pub mod UsedLemmas

@@ -1,8 +1,8 @@
 -- What is known of a session that begins, and that what a packet on its way out comes to may join the sessions.
-use Rattle.std.proofs.Common.{◌≡◌, ◌≢◌, ◌⊎◌, ℕ, ◌<◌, List, length, Contains, Option, Some, None, Result, Ok, Err, count_by, is_some, true, false, nat_lt, if◌then◌else◌, refl, sym, ap, ◌∙◌, subst, inl, inr, arith}
+use Rattle.std.proofs.Common.{◌≡◌, ◌≢◌, ◌⊎◌, ℕ, ◌+◌, ◌<◌, ◌≤◌, List, length, Contains, Option, Some, None, Ok, Err, count_by, is_some, true, false, nat_lt, if◌then◌else◌, refl, sym, ap, ◌∙◌, subst, inl, inr, arith}
 use Rattle.std.specs.Prelude.{find}
-use Rattle.std.proofs.lemmas.Bool.{cases_Bool, false≢true, le-ltb, lt-ltb, ltb-false}
-use Rattle.packet.specs.Config.{Config, Pool, is_config, is_inside}
+use Rattle.std.proofs.lemmas.Bool.{false≢true, le-ltb, lt-ltb}
+use Rattle.packet.specs.Config.{Config, is_config, is_inside}
 use Rattle.packet.specs.Same.{same_endpoint}
 use Rattle.packet.specs.declared.endpoint.Endpoint.{Endpoint}
 use Rattle.packet.specs.declared.endpoint.Iface.TheVariants.{Lan, Wan}
@@ -16,23 +16,22 @@ use Rattle.sessions.specs.Table.{Clash}
 use Rattle.sessions.specs.declared.session.Change.TheVariants.{Begin}
 use Rattle.sessions.specs.declared.session.Opener.TheVariants.{Inside}
 use Rattle.sessions.specs.declared.session.Session.{Session}
-use Rattle.sessions.proofs.Puts.{has_inside-true}
+use Rattle.sessions.proofs.Puts.{length-listing}
 use Rattle.sessions.proofs.Sets.{listing-In}
 use Rattle.verdict.specs.Hooks.{forward_verdict, postrouting_verdict}
 use Rattle.verdict.specs.declared.facts.Facts.{Facts}
 use Rattle.verdict.specs.declared.facts.State.TheVariants.{New}
 use Rattle.verdict.specs.declared.hook.Source.{Source}
 use Rattle.verdict.specs.declared.hook.Source.TheVariants as source
-use Rattle.hairpin.specs.Legs.{begun_out, counted, facts_of, forwarded, is_taken, maps_inside, needs_session, new_session, or_no_port, out_by, out_leg, outside_by_rules, outside_for, outward, passed_by, connection_of, then_with, uses_in}
-use Rattle.hairpin.specs.Plans.{IsPlanOf, MayBegin}
+use Rattle.hairpin.specs.Legs.{begun_out, counted, facts_of, forwarded, is_taken, maps_inside, needs_session, new_session, out_by, out_leg, outside_by_rules, outside_for, outward, passed_by, connection_of, then_with, uses_in}
+use Rattle.hairpin.specs.Plans.{MayBegin, Plans}
 use Rattle.hairpin.specs.KeepBounds.{KeepBounds}
 use Rattle.sessions.specs.Sound.{AreSound}
-use Rattle.hairpin.specs.declared.cause.Cause.{Cause}
 use Rattle.hairpin.specs.declared.cause.Cause.TheVariants.{NoSession, Rule, TableFull}
 use Rattle.hairpin.specs.declared.plan.Plan.{Plan}
 use Rattle.hairpin.proofs.Apart.{choice-free, chosen_apart, err-ok, find-In, fresh, mapped-some, mapped_apart, maps-parts, outside_away, port-ok, same_Ok}
 use Rattle.hairpin.proofs.Choosing.{pool-given}
-use Rattle.hairpin.proofs.Soundness.{IsFine, fine-filtered, one-joins, passed-joins, put-more, put-sound}
+use Rattle.hairpin.proofs.Soundness.{IsFine, fine-filtered, fine-one, fine-then, fine-unless, one-joins, passed-joins, put-more}
 
 -- what is known of a session that begins: it stands apart from all, and its outside endpoint is in its place
 pub record Opened (config : Config) (sessions : List Session) (new : Session) : Type 0 where
@@ -105,23 +104,9 @@ may_begin config held now t o unseen last few = record {
 abbrev pub plan_begun : Session → Plan
 plan_begun t = record { first = Begin t; second = None; src = t.outside; dst = t.remote; iface = Wan }
 
-pub begun-is : (external : Pool) (held : List (Option Session)) (now : ℕ) (t : Session) → MayBegin external held now t → IsPlanOf external held now (plan_begun t) (outward t)
-begun-is external held now t may = record { sessions = (t, (refl, may), refl); src = refl; dst = refl; iface = refl }
-
 module _ (config : Config) (rules : Spelled) (bounded : KeepBounds config rules) (sessions : List Session) (now : ℕ) (view : View) where
   abbrev facts : Facts
   facts = facts_of config rules sessions now view Lan (Some Wan) view.src view.dst New
-
-  -- what is chosen at an address is what the rules ask for that say it
-  pub by_snat : (addr : ℕ) → postrouting_verdict config facts rules ≡ source.From addr → (o : Option Endpoint) → o ≡ port_at (is_taken sessions view.proto) view.src.port addr
-      → or_no_port o ≡ outside_by_rules config rules sessions now view (postrouting_verdict config facts rules)
-  by_snat addr e o is = ap or_no_port is ∙ sym (ap (outside_by_rules config rules sessions now view) e)
-
-  -- what is chosen of the pool is what those ask for that masquerade
-  pub by_masquerade : postrouting_verdict config facts rules ≡ source.Masquerade → (o : Option Endpoint)
-      → o ≡ pool_choice (uses_in sessions view.src.addr) (is_taken sessions view.proto) config.external view.src.port
-      → or_no_port o ≡ outside_by_rules config rules sessions now view (postrouting_verdict config facts rules)
-  by_masquerade e o is = ap or_no_port is ∙ sym (ap (outside_by_rules config rules sessions now view) e)
 
   module _ (is_one : is_config config ≡ true) (sound : AreSound config sessions) (is_near : is_inside config view.src.addr ≡ true) (near_port : 0 < view.src.port)
       (none : find (has_inside view.proto view.src view.dst) sessions ≡ None) where
@@ -154,39 +139,29 @@ module _ (config : Config) (rules : Spelled) (bounded : KeepBounds config rules)
     begun-at outside h = ap (λ r. then_with r (λ o. counted config rules sessions now view (outward (new o)))) h
 
     -- there is room for it, or not
-    pub room_left : (outside : Endpoint) → outside_for config rules sessions now view (find (maps_inside view.proto view.src) sessions) ≡ Ok outside → length sessions < 65536
-        → begun_out config rules sessions now view ≡ Ok (outward (new outside))
-    room_left outside h few =
-        let room : nat_lt 65536 (length (put (new outside) sessions)) ≡ false = le-ltb _ _ (omega (arith, few, put-more (new outside) sessions (opened outside h).apart)) in
-        begun-at outside h ∙ ap (λ b. if b then Err TableFull else Ok (outward (new outside))) room
+    module _ (held : List (Option Session)) (is : sessions ≡ listing held) (outside : Endpoint) (h : outside_for config rules sessions now view (find (maps_inside view.proto view.src) sessions) ≡ Ok outside) where
+      counts : length (put (new outside) sessions) ≡ count_by is_some held + 1
+      counts = put-more (new outside) sessions (opened outside h).apart ∙ ap (λ (xs : List Session). length xs + 1) is ∙ ap (λ n. n + 1) (length-listing held)
 
-    pub no_room : (outside : Endpoint) → outside_for config rules sessions now view (find (maps_inside view.proto view.src) sessions) ≡ Ok outside → length sessions ≡ 65536
-        → begun_out config rules sessions now view ≡ Err TableFull
-    no_room outside h many =
-        let full : nat_lt 65536 (length (put (new outside) sessions)) ≡ true = lt-ltb _ _ (omega (arith, many, put-more (new outside) sessions (opened outside h).apart)) in
-        begun-at outside h ∙ ap (λ b. if b then Err TableFull else Ok (outward (new outside))) full
+      pub no_room : count_by is_some held ≡ 65536 → Plans config.external held now (Err TableFull) (begun_out config rules sessions now view)
+      no_room many =
+          let full : nat_lt 65536 (length (put (new outside) sessions)) ≡ true = lt-ltb _ _ (omega (arith, many, counts)) in
+          subst (Plans config.external held now (Err TableFull)) (sym (begun-at outside h ∙ ap (λ b. if b then Err TableFull else Ok (outward (new outside))) full)) refl
 
-    module _ (remote_port : 0 < view.dst.port) where
-      fine_counted : (outside : Endpoint) → Opened config sessions (new outside) → IsFine config sessions now (counted config rules sessions now view (outward (new outside)))
-      fine_counted outside o =
-          let t = new outside in
-          elim (cases_Bool (nat_lt 65536 (length (put t sessions)))) [
-            | inl full ↦ subst (λ b. IsFine config sessions now (if b then Err TableFull else Ok (outward t))) (sym full) tt
-            | inr room ↦ subst (λ b. IsFine config sessions now (if b then Err TableFull else Ok (outward t))) (sym room)
-                (one-joins config sessions now t (record {
-                  sound = put-sound config sessions sound t (λ s in_s other. o.apart s in_s)
-                      (omega (arith, ltb-false 65536 (length (put t sessions)) room))
-                      (record { inside = is_near; outside = o.outside; inside_port = near_port; outside_port = o.port; remote_port = remote_port })
-                      (omega arith);
-                  last = refl;
-                  keeps = λ u in_u same. absurd (o.apart u in_u (inl (has_inside-true view.proto view.src view.dst u same)));
-                }))
-          ]
+      pub room_left : count_by is_some held ≢ 65536 → (t : Session) → t ≡ new outside → Plans config.external held now (Ok (plan_begun t)) (begun_out config rules sessions now view)
+      room_left few t t_is =
+          let most : count_by is_some held ≤ 65536 = omega (arith, sound.at_most, ap (λ (xs : List Session). length xs) is, length-listing held) in
+          let room : nat_lt 65536 (length (put (new outside) sessions)) ≡ false = le-ltb _ _ (omega (arith, few, most, counts)) in
+          let may = may_begin config held now (new outside) (subst (λ (xs : List Session). Opened config xs (new outside)) is (opened outside h)) refl refl few in
+          subst (λ (u : Session). Plans config.external held now (Ok (plan_begun u)) (begun_out config rules sessions now view)) (sym t_is)
+          (subst (Plans config.external held now (Ok (plan_begun (new outside)))) (sym (begun-at outside h ∙ ap (λ b. if b then Err TableFull else Ok (outward (new outside))) room))
+          (record { sessions = (new outside, (refl, may), refl); src = refl; dst = refl; iface = refl }))
 
-      fine_begun : (r : Result Endpoint Cause) → outside_for config rules sessions now view (find (maps_inside view.proto view.src) sessions) ≡ r
-          → IsFine config sessions now (then_with r (λ o. counted config rules sessions now view (outward (new o))))
-      fine_begun (Err cause) e = tt
-      fine_begun (Ok outside) e = fine_counted outside (opened outside e)
+    fine_begun : 0 < view.dst.port → IsFine config sessions now (begun_out config rules sessions now view)
+    fine_begun remote_port = fine-then config sessions now (outside_for config rules sessions now view (find (maps_inside view.proto view.src) sessions)) (λ o. counted config rules sessions now view (outward (new o))) (λ outside e.
+        let o = opened outside e in
+        fine-one config sessions sound now (new outside) outside view.dst Wan o.apart
+        (record { inside = is_near; outside = o.outside; inside_port = near_port; outside_port = o.port; remote_port = remote_port }) (omega arith) refl)
 
 module _ (config : Config) (rules : Spelled) (sessions : List Session) (now : ℕ) (view : View) (is_one : is_config config ≡ true) (sound : AreSound config sessions) (bounded : KeepBounds config rules)
     (is_near : is_inside config view.src.addr ≡ true) (near_port : 0 < view.src.port) (remote_port : 0 < view.dst.port) where
@@ -196,14 +171,10 @@ module _ (config : Config) (rules : Spelled) (sessions : List Session) (now : �
       fine-filtered config sessions now (forward_verdict config (facts_of config rules sessions now view Lan (Some Wan) view.src view.dst (connection_of s Inside view.flags)) rules) (Ok (outward t))
       (one-joins config sessions now t (passed-joins config sessions sound s Inside view.flags now (find-In (has_inside view.proto view.src view.dst) sessions s e).0))
   fine_by None e =
-      let way = forwarded config rules sessions now view Lan Wan view.src view.dst New (begun_out config rules sessions now view) in
-      elim (cases_Bool (needs_session view)) [
-        | inl needs ↦ subst (λ b. IsFine config sessions now (if b then Err NoSession else way)) (sym needs) tt
-        | inr begins ↦ subst (λ b. IsFine config sessions now (if b then Err NoSession else way)) (sym begins)
-            (fine-filtered config sessions now (forward_verdict config (facts_of config rules sessions now view Lan (Some Wan) view.src view.dst New) rules) (begun_out config rules sessions now view)
-            (fine_begun config rules bounded sessions now view is_one sound is_near near_port e remote_port
-            (outside_for config rules sessions now view (find (maps_inside view.proto view.src) sessions)) refl))
-      ]
+      let way = begun_out config rules sessions now view in
+      fine-unless config sessions now (needs_session view) NoSession (forwarded config rules sessions now view Lan Wan view.src view.dst New way) (λ begins.
+      fine-filtered config sessions now (forward_verdict config (facts_of config rules sessions now view Lan (Some Wan) view.src view.dst New) rules) way
+      (fine_begun config rules bounded sessions now view is_one sound is_near near_port e remote_port))
 
   -- what a packet on its way out comes to may join the sessions
   pub fine-out : IsFine config sessions now (out_leg config rules sessions now view)

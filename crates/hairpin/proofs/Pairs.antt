@@ -35,7 +35,7 @@ uses-is sessions host addr h =
     let b = and_parts _ _ a.1 in
     (s.0, s.1, (apart-from _ _ (not-true _ a.0), same_eq _ _ b.0), same_eq _ _ b.1)
 
-is-uses : (sessions : List Session) (host addr : ℕ) → IsAt sessions host addr → uses_in sessions host addr ≡ true
+pub is-uses : (sessions : List Session) (host addr : ℕ) → IsAt sessions host addr → uses_in sessions host addr ≡ true
 unfolding uses
 is-uses sessions host addr at =
     let s = at.0 in
@@ -70,29 +70,17 @@ hairpin pool sessions taken host far port addr e at listed choice =
 
 -- ---- a session that is put in
 
-is-old : (t : Session) (sessions : List Session) (s : Session) → In s (put t sessions) → (s ≡ t) ⊎ In s sessions
-is-old t sessions s in_s = elim (In-insert t (filter (λ u. not (same_flow t u)) sessions) s in_s) [
-  | inl e ↦ inl e
-  | inr old ↦ inr (In-filter (λ u. not (same_flow t u)) sessions s old).0
-]
-
 -- an address of the host then is that of the session, or one of those before
 put-at : (host : ℕ) (t : Session) (sessions : List Session) (addr : ℕ) → IsAt (put t sessions) host addr → (Translates host t × (addr ≡ t.outside.addr)) ⊎ IsAt sessions host addr
-put-at host t sessions addr at = elim (is-old t sessions at.0 at.1) [
+put-at host t sessions addr at = elim (In-insert t (filter (λ u. not (same_flow t u)) sessions) at.0 at.1) [
   | inl e ↦ inl (subst (Translates host) e at.2, sym at.3 ∙ ap (λ (v : Session). v.outside.addr) e)
-  | inr old ↦ inr (at.0, old, at.2, at.3)
+  | inr old ↦ inr (at.0, (In-filter (λ u. not (same_flow t u)) sessions at.0 old).0, at.2, at.3)
 ]
 
 pub put_in : PutStays
 put_in host t sessions one fits addr other at at_other = elim (put-at host t sessions addr at) [
-  | inl a ↦ elim (put-at host t sessions other at_other) [
-    | inl b ↦ a.1 ∙ sym b.1
-    | inr old ↦ a.1 ∙ sym (fits a.0 other old)
-  ]
-  | inr old ↦ elim (put-at host t sessions other at_other) [
-    | inl b ↦ fits b.0 addr old ∙ sym b.1
-    | inr old_other ↦ one addr other old old_other
-  ]
+  | inl a ↦ elim (put-at host t sessions other at_other) [ inl b ↦ a.1 ∙ sym b.1 | inr old ↦ a.1 ∙ sym (fits a.0 other old) ]
+  | inr old ↦ elim (put-at host t sessions other at_other) [ inl b ↦ fits b.0 addr old ∙ sym b.1 | inr old_other ↦ one addr other old old_other ]
 ]
 
 pub one_address : HostsKeepOneAddress

@@ -1,5 +1,5 @@
 -- The plan of a packet that hairpins, from what is looked up in the table and in the mappings.
-use Rattle.std.proofs.Common.{◌≡◌, ◌≢◌, ℕ, ◌+◌, ◌<◌, ◌≤◌, List, length, Contains, count_by, is_some, get_or, Option, Some, None, Result, Ok, Err, IfSome, IfNone, true, false, not, if◌then◌else◌, refl, sym, ap, ◌∙◌, subst, inl, inr, arith}
+use Rattle.std.proofs.Common.{◌≡◌, ◌≢◌, ℕ, ◌+◌, ◌<◌, ◌≤◌, List, length, Contains, count_by, is_some, get_or, Option, Some, None, Result, Ok, Err, IfSome, IfNone, Bool, true, false, not, if◌then◌else◌, refl, sym, ap, ◌∙◌, subst, inl, inr, arith}
 use Rattle.std.specs.Prelude.{find}
 use Rattle.std.specs.List.{filter}
 use Rattle.std.specs.Option.{option_map, option_map_or}
@@ -12,28 +12,28 @@ use Rattle.packet.specs.declared.endpoint.Endpoint.{Endpoint}
 use Rattle.packet.specs.declared.endpoint.Iface.TheVariants.{Lan}
 use Rattle.packet.specs.declared.endpoint.Proto.{Proto}
 use Rattle.packet.specs.declared.view.View.{View}
-use Rattle.portpick.specs.Pool.{near_choice}
 use Rattle.ruletree.specs.declared.tree.Spelled.{Spelled}
-use Rattle.sessions.specs.Laws.{IsMapping}
 use Rattle.sessions.specs.Listing.{In, breaks_mapping, clashes, has_inside, has_outside, has_peer, listing, put, same_flow}
 use Rattle.sessions.specs.Table.{AnyClash, Clash as Clashing}
 use Rattle.sessions.specs.declared.session.Change.{Change}
 use Rattle.sessions.specs.declared.session.Change.TheVariants.{Begin, Seen, Restart}
 use Rattle.sessions.specs.declared.session.Opener.TheVariants.{Inside, Remote}
 use Rattle.sessions.specs.declared.session.Session.{Session}
-use Rattle.sessions.proofs.Clashing.{breaks-from, breaks-parts, differ, same_endpoint-from}
+use Rattle.sessions.proofs.Clashing.{breaks-from, breaks-parts, differ}
 use Rattle.sessions.proofs.Found.{has_outside-true}
 use Rattle.sessions.proofs.Held.{Clash-same_keys, SameKeys-refl}
 use Rattle.sessions.proofs.PeerFinds.{has_peer-true}
 use Rattle.sessions.proofs.Puts.{has_inside-true, length-listing}
 use Rattle.sessions.proofs.Sets.{In-filter, In-insert, In-listing, filter-In, insert-In, listing-In}
 use Rattle.verdict.specs.Hooks.{forward_verdict, prerouting_verdict}
+use Rattle.verdict.specs.declared.facts.State.{State}
 use Rattle.verdict.specs.declared.facts.State.TheVariants.{New}
 use Rattle.verdict.specs.declared.hook.Destination.{Destination}
 use Rattle.verdict.specs.declared.hook.Destination.TheVariants as destination
 use Rattle.verdict.specs.declared.hook.Forwarding.{Forwarding}
 use Rattle.verdict.specs.declared.hook.Forwarding.TheVariants as forwarding
-use Rattle.hairpin.specs.Legs.{Passage, begun_second, by_mapping, counted, facts_of, first_by, first_state, forwarded, inside_by_rules, inside_far, is_taken, lets_in, maps_inside, maps_outside, needs_session, new_session, or_no_port, outside_near, passed_by, second, second_by, then_with, through, unless_dropped, uses_in}
+use Rattle.hairpin.specs.Legs.{Passage, begun_second, by_mapping, counted, facts_of, first_by, first_state, forwarded, inside_by_rules, inside_far, lets_in, maps_inside, maps_outside, needs_session, new_session, outside_near, passed_by, second, second_by, then_with, through, unless_dropped}
+use Rattle.hairpin.specs.FromInside.{GoesOutFirst}
 use Rattle.hairpin.specs.Plans.{Gives, GivesThen, IsApart, IsOf, Plans}
 use Rattle.sessions.specs.Sound.{AreSound}
 use Rattle.hairpin.specs.declared.cause.Cause.{Cause}
@@ -42,29 +42,22 @@ use Rattle.hairpin.specs.declared.held.Held.{Held}
 use Rattle.hairpin.specs.declared.plan.Plan.{Plan}
 use Rattle.hairpin.proofs.Apart.{find-In, maps_outside-parts}
 use Rattle.hairpin.proofs.Clashing.{none_clashes, no_clash}
-use Rattle.hairpin.proofs.Mapped.{not_mapped}
 use Rattle.hairpin.proofs.Opening.{may_begin}
 use Rattle.hairpin.proofs.Doubling.{IsFirst, IsSecond, Rises-put, find-put, first-is, fresh, gone, put-In, second-is}
 
 -- ---- what is looked up is what is found once the first session is put in
 
 module _ (first : Session) (sessions : List Session) (keeps : (u : Session) → In u sessions → same_flow first u ≡ true → u.outside ≡ first.outside) where
-  pub has-other : (proto : Proto) (dst remote : Endpoint) → first.outside ≢ dst → find (has_outside proto dst remote) (put first sessions) ≡ find (has_outside proto dst remote) sessions
-  has-other proto dst remote away = find-put (has_outside proto dst remote) first sessions
-      (false_from_ne_true _ (λ h. away (has_outside-true proto dst remote first h).1))
-      (λ s in_s same. false_from_ne_true _ (λ h. away (sym (keeps s in_s same) ∙ (has_outside-true proto dst remote s h).1)))
+  find-other : (p : Session → Bool) (dst : Endpoint) → ((s : Session) → p s ≡ true → s.outside ≡ dst) → first.outside ≢ dst → find p (put first sessions) ≡ find p sessions
+  find-other p dst at away = find-put p first sessions (false_from_ne_true _ (λ h. away (at first h))) (λ s in_s same. false_from_ne_true _ (λ h. away (sym (keeps s in_s same) ∙ at s h)))
 
-  pub maps-other : (proto : Proto) (dst : Endpoint) → first.outside ≢ dst → find (maps_outside proto dst) (put first sessions) ≡ find (maps_outside proto dst) sessions
-  maps-other proto dst away = find-put (maps_outside proto dst) first sessions
-      (false_from_ne_true _ (λ h. away (maps_outside-parts proto dst first h).2))
-      (λ s in_s same. false_from_ne_true _ (λ h. away (sym (keeps s in_s same) ∙ (maps_outside-parts proto dst s h).2)))
+  pub has-other : (proto : Proto) (dst remote : Endpoint) → first.outside ≢ dst → find (has_outside proto dst remote) (put first sessions) ≡ find (has_outside proto dst remote) sessions
+  has-other proto dst remote = find-other (has_outside proto dst remote) dst (λ s h. (has_outside-true proto dst remote s h).1)
 
   -- a mapping of another outside endpoint lets in whom it let in
   lets-other : (filter : Filtering) (remote : ℕ) (m : Session) → first.outside ≢ m.outside → lets_in filter (put first sessions) m remote ≡ lets_in filter sessions m remote
   lets-other filtering.Endpoint remote m away = refl
-  lets-other filtering.Address remote m away = ap is_some (find-put (has_peer m.proto m.inside m.outside remote) first sessions
-      (false_from_ne_true _ (λ h. away (has_peer-true m.proto m.inside m.outside remote first h).2))
-      (λ s in_s same. false_from_ne_true _ (λ h. away (sym (keeps s in_s same) ∙ (has_peer-true m.proto m.inside m.outside remote s h).2))))
+  lets-other filtering.Address remote m away = ap is_some (find-other (has_peer m.proto m.inside m.outside remote) m.outside (λ s h. (has_peer-true m.proto m.inside m.outside remote s h).2) away)
 
   found-other : (filter : Filtering) (proto : Proto) (dst : Endpoint) (remote : ℕ) → first.outside ≢ dst → (o : Option Session) → find (maps_outside proto dst) sessions ≡ o
       → by_mapping filter (put first sessions) remote o ≡ by_mapping filter sessions remote o
@@ -77,7 +70,7 @@ module _ (first : Session) (sessions : List Session) (keeps : (u : Session) → 
       → inside_by_rules config rules sessions now view (put first sessions) remote (find (maps_outside view.proto view.dst) (put first sessions)) d
       ≡ inside_by_rules config rules sessions now view sessions remote (find (maps_outside view.proto view.dst) sessions) d
   given-other config rules now view remote away destination.None =
-      ap (by_mapping config.filtering (put first sessions) remote) (maps-other view.proto view.dst away)
+      ap (by_mapping config.filtering (put first sessions) remote) (find-other (maps_outside view.proto view.dst) view.dst (λ s h. (maps_outside-parts view.proto view.dst s h).2) away)
       ∙ found-other config.filtering view.proto view.dst remote away (find (maps_outside view.proto view.dst) sessions) refl
   given-other config rules now view remote away (destination.To inside) = refl
   given-other config rules now view remote away destination.Drop = refl
@@ -88,15 +81,11 @@ module _ (first : Session) (sessions : List Session) (keeps : (u : Session) → 
     | inl same ↦
         let has = has_inside-true first.proto first.inside first.remote u same in
         (first, put-In first sessions, Clash-same_keys t first t u (SameKeys-refl t) (record { proto = sym has.0; inside = sym has.1; outside = sym (keeps u in_u same); remote = sym has.2 }) clash)
-    | inr other ↦
-        (u, insert-In first (filter (λ v. not (same_flow first v)) sessions) u (inr (filter-In (λ v. not (same_flow first v)) sessions u in_u (ap not other))), clash)
+    | inr other ↦ (u, insert-In first (filter (λ v. not (same_flow first v)) sessions) u (inr (filter-In (λ v. not (same_flow first v)) sessions u in_u (ap not other))), clash)
   ]
 
 pub clash-found : (t : Session) (sessions : List Session) → (s : Session) × In s sessions × Clashing t s → is_some (find (clashes t) sessions) ≡ true
-clash-found t sessions is = elim (cases_Bool (is_some (find (clashes t) sessions))) [
-  | inl h ↦ h
-  | inr none ↦ absurd (no_clash t sessions (gone (find (clashes t) sessions) none) is.0 is.1 is.2)
-]
+clash-found t sessions is = elim (cases_Bool (is_some (find (clashes t) sessions))) [ inl h ↦ h | inr none ↦ absurd (no_clash t sessions (gone (find (clashes t) sessions) none) is.0 is.1 is.2) ]
 
 -- none clashes, where none that is held does and the mappings of the first stay
 pub clash-none : (held : List (Option Session)) (first t : Session) → first.remote ≢ t.remote → breaks_mapping t first ≡ false → ¬ AnyClash held t
@@ -104,13 +93,7 @@ pub clash-none : (held : List (Option Session)) (first t : Session) → first.re
 clash-none held first t away keeps_mapping none =
     ap is_some (none_clashes t (put first (listing held)) (λ s in_s clash.
     elim (In-insert first (filter (λ v. not (same_flow first v)) (listing held)) s in_s) [
-      | inl e ↦ elim (subst (Clashing t) e clash) [
-        | inl h ↦ away h.2
-        | inr more ↦ elim more [
-          | inl h ↦ away h.2
-          | inr h ↦ false≢true (sym keeps_mapping ∙ breaks-from t first h)
-        ]
-      ]
+      | inl e ↦ elim (subst (Clashing t) e clash) [ inl h ↦ away h.2 | inr more ↦ elim more [ inl h ↦ away h.2 | inr h ↦ false≢true (sym keeps_mapping ∙ breaks-from t first h) ] ]
       | inr old ↦
           let at = In-listing held s (In-filter (λ v. not (same_flow first v)) (listing held) s old).0 in
           none (record { place = at.0; held = s; is_held = at.1; clash = clash })
@@ -124,24 +107,20 @@ clash-any held first t keeps any = clash-found t (put first (listing held))
 pub clash-first : (held : List (Option Session)) (first t : Session) → breaks_mapping t first ≡ true → is_some (find (clashes t) (put first (listing held))) ≡ true
 clash-first held first t breaks = clash-found t (put first (listing held)) (first, put-In first (listing held), inr (inr (breaks-parts t first breaks)))
 
-module _ (config : Config) (rules : Spelled) (sessions : List Session) (now : ℕ) (view : View) (first : Session) (held : List Session) (inside : Endpoint) where
-  abbrev begun : Session
-  begun = new_session config rules sessions now view Remote inside view.dst first.outside
+-- the second session begins, or it clashes
+pub begun-as : (config : Config) (rules : Spelled) (sessions : List Session) (now : ℕ) (view : View) (first : Session) (held : List Session) (inside : Endpoint) (t : Session)
+    → t ≡ new_session config rules sessions now view Remote inside view.dst first.outside → (b : Bool) → is_some (find (clashes t) held) ≡ b
+    → (if b then Err Clash else Ok t) ≡ begun_second config rules sessions now view first held inside
+begun-as config rules sessions now view first held inside t is b h =
+    subst (λ (u : Session). (if b then Err Clash else Ok t) ≡ (if is_some (find (clashes u) held) then Err Clash else Ok u)) is (sym (ap (λ c. if c then Err Clash else Ok t) h))
 
-  pub begun-clashes : is_some (find (clashes begun) held) ≡ true → Err Clash ≡ begun_second config rules sessions now view first held inside
-  begun-clashes h = sym (ap (λ b. if b then Err Clash else Ok begun) h)
-
-  pub begun-new : is_some (find (clashes begun) held) ≡ false → Ok begun ≡ begun_second config rules sessions now view first held inside
-  begun-new h = sym (ap (λ b. if b then Err Clash else Ok begun) h)
-
--- ---- the outside endpoint of a new first session, where no mapping has the inside one
-
-pub near_chosen : (config : Config) (rules : Spelled) (sessions : List Session) → AreSound config sessions → (now : ℕ) (view : View) (o : Option Endpoint)
-    → ((outside : Endpoint) → ¬ IsMapping sessions view.proto view.src outside)
-    → o ≡ near_choice (uses_in sessions view.src.addr) (is_taken sessions view.proto) config.external view.dst.addr view.src.port
-    → or_no_port o ≡ outside_near config rules sessions now view (find (maps_inside view.proto view.src) sessions)
-near_chosen config rules sessions sound now view o absent is =
-    ap or_no_port is ∙ sym (ap (outside_near config rules sessions now view) (not_mapped config sessions sound view.proto view.src absent))
+-- it is looked up as if the first were not put in
+pub second-found : {b o : Option Held} (config : Config) (rules : Spelled) (held : List (Option Session)) (now : ℕ) (view : View) (first : Session) → GoesOutFirst held view first
+    → option_map (λ (h : Held). h.session) b ≡ find (has_outside view.proto view.dst first.outside) (listing held) → b ≡ o
+    → second_by config rules (listing held) now view first (put first (listing held)) (find (has_outside view.proto view.dst first.outside) (put first (listing held)))
+    ≡ second_by config rules (listing held) now view first (put first (listing held)) (option_map (λ (h : Held). h.session) o)
+second-found config rules held now view first goes found is = ap (second_by config rules (listing held) now view first (put first (listing held)))
+    (has-other first (listing held) goes.keeps view.proto view.dst first.outside goes.away ∙ sym found ∙ ap (λ b. option_map (λ (h : Held). h.session) b) is)
 
 -- ---- a session that begins
 
@@ -162,8 +141,7 @@ second-none config rules sessions now view first keeps away needs r e =
     let decision = prerouting_verdict config (facts_of config rules sessions now view Lan None view.src view.dst New) rules in
     let there : inside_far config rules sessions now view first sessions ≡ inside_far config rules sessions now view first (put first sessions) =
     sym (given-other first sessions keeps config rules now view first.outside.addr away decision) in
-    ap (λ x. then_with x next) (e ∙ there)
-    ∙ sym (ap (λ c. if c then Err NoSession else then_with (inside_far config rules sessions now view first (put first sessions)) next) needs)
+    ap (λ x. then_with x next) (e ∙ there) ∙ sym (ap (λ c. if c then Err NoSession else then_with (inside_far config rules sessions now view first (put first sessions)) next) needs)
 
 -- ---- the changes give the sessions
 
@@ -183,8 +161,7 @@ abbrev pub GivesHeld : Change → (Session → ℕ → Session) → Held → Typ
 GivesHeld change passed h = (external : Pool) (places : List (Option Session)) (now : ℕ) → get_or places h.slot None ≡ Some h.session → Gives external places now change (passed h.session now)
 
 first-gives : (config : Config) (held : List (Option Session)) (now : ℕ) (view : View) (first : Session) (change : Change) (b : Option Held)
-    → IsFirst config (listing held) view now (option_map (λ (h : Held). h.session) b) first
-    → IfSome b (λ h. get_or held h.slot None ≡ Some h.session)
+    → IsFirst config (listing held) view now (option_map (λ (h : Held). h.session) b) first → IfSome b (λ h. get_or held h.slot None ≡ Some h.session)
     → IfSome b (GivesHeld change (λ s now. passed_by s Inside view.flags now))
     → IfNone b (change ≡ Begin first)
     → length (put first (listing held)) ≤ 65536 → Gives config.external held now change first
@@ -197,8 +174,7 @@ first-gives config held now view first change (Some h) f slot goes begins few = 
 second-gives : (config : Config) (rules : Spelled) (held : List (Option Session)) (now : ℕ) (view : View) (first t : Session) (change before : Change) (b : Option Held)
     → Contains config.external view.dst.addr → 0 < view.dst.port → first.outside ≢ view.dst
     → option_map (λ (h : Held). h.session) b ≡ find (has_outside view.proto view.dst first.outside) (listing held)
-    → IsSecond config rules (put first (listing held)) view now (option_map (λ (h : Held). h.session) b) t
-    → IfSome b (λ h. get_or held h.slot None ≡ Some h.session)
+    → IsSecond config rules (put first (listing held)) view now first (option_map (λ (h : Held). h.session) b) t → IfSome b (λ h. get_or held h.slot None ≡ Some h.session)
     → IfSome b (GivesHeld change (λ s now. passed_by s Remote view.flags now))
     → IfNone b (change ≡ Begin t)
     → length (put t (put first (listing held))) ≤ 65536 → Gives config.external held now before first → GivesThen config.external held now before first change t
@@ -221,12 +197,9 @@ second-gives config rules held now view first t change before (Some h) at port a
     let other = not_of config.external held now before first gives h.slot h.session slot (λ e. away (sym e ∙ outside)) in
     subst (Gives config.external later now change) (f.goes h.session refl) (goes config.external later now (became.kept h.slot h.session slot other))
 
-second-apart : (config : Config) (rules : Spelled) (held : List (Option Session)) (now : ℕ) (view : View) (first t : Session) (change before : Change) (b : Option Held)
-    → first.outside ≢ view.dst
-    → option_map (λ (h : Held). h.session) b ≡ find (has_outside view.proto view.dst first.outside) (listing held)
-    → IfSome b (λ h. get_or held h.slot None ≡ Some h.session)
-    → IfSome b (λ h. (slot : ℕ) → IsOf change slot → slot ≡ h.slot)
-    → IfNone b (change ≡ Begin t) → Gives config.external held now before first → IsApart held before change
+second-apart : (config : Config) (rules : Spelled) (held : List (Option Session)) (now : ℕ) (view : View) (first t : Session) (change before : Change) (b : Option Held) → first.outside ≢ view.dst
+    → option_map (λ (h : Held). h.session) b ≡ find (has_outside view.proto view.dst first.outside) (listing held) → IfSome b (λ h. get_or held h.slot None ≡ Some h.session)
+    → IfSome b (λ h. (slot : ℕ) → IsOf change slot → slot ≡ h.slot) → IfNone b (change ≡ Begin t) → Gives config.external held now before first → IsApart held before change
 second-apart config rules held now view first t change before None away found slot own begins gives k of = absurd (subst (λ c. IsOf c k) begins of)
 second-apart config rules held now view first t change before (Some h) away found slot own begins gives k of =
     let is = find-In (has_outside view.proto view.dst first.outside) (listing held) h.session (sym found) in
@@ -263,36 +236,27 @@ module _ (config : Config) (rules : Spelled) (held : List (Option Session)) (now
   abbrev found2 : Option Session
   found2 = find (has_outside view.proto view.dst first.outside) (put first L)
 
-  pub drops_self : first.outside ≡ view.dst → Plans config.external held now (Err SelfMapped) way
-  drops_self same = subst (λ b. Plans config.external held now (Err SelfMapped) (then_with (if b then Err SelfMapped else second_by config rules L now view first (put first L) found2) next))
-      (sym (same_endpoint-from first.outside view.dst same)) refl
-
   module _ (away : first.outside ≢ view.dst) where
-    other_way : (result : Result Plan Cause) → Plans config.external held now result (then_with (second_by config rules L now view first (put first L) found2) next) → Plans config.external held now result way
-    other_way result plans = subst (λ b. Plans config.external held now result (then_with (if b then Err SelfMapped else second_by config rules L now view first (put first L) found2) next))
-        (sym (differ first.outside view.dst away)) plans
-
-    pub drops_second : (cause : Cause) → second_by config rules L now view first (put first L) found2 ≡ Err cause → Plans config.external held now (Err cause) way
-    drops_second cause e = other_way (Err cause) (subst (λ r. Plans config.external held now (Err cause) (then_with r next)) (sym e) refl)
-
-    module _ (t : Session) (ok2 : second_by config rules L now view first (put first L) found2 ≡ Ok t) where
+    module _ (state : State) (state_is : state ≡ first_state config rules L now view (option_map (λ (h : Held). h.session) b1)) (t : Session) (ok2 : second_by config rules L now view first (put first L) found2 ≡ Ok t) where
       abbrev decided : Forwarding
-      decided = forward_verdict config (facts_of config rules L now view Lan (Some Lan) view.src t.inside (first_state config rules L now view (option_map (λ (h : Held). h.session) b1))) rules
+      decided = forward_verdict config (facts_of config rules L now view Lan (Some Lan) view.src t.inside state) rules
 
       abbrev end : Result Passage Cause
       end = counted config rules L now view (through first t)
 
       behind : (result : Result Plan Cause) (d : Forwarding) → decided ≡ d → Plans config.external held now result (unless_dropped d end) → Plans config.external held now result way
-      behind result d e plans = other_way result (subst (λ r. Plans config.external held now result (then_with r next)) (sym ok2)
-          (subst (λ o. Plans config.external held now result (forwarded config rules L now view Lan Lan view.src t.inside (first_state config rules L now view o) end)) e1
+      behind result d e plans =
+          subst (λ b. Plans config.external held now result (then_with (if b then Err SelfMapped else second_by config rules L now view first (put first L) found2) next)) (sym (differ first.outside view.dst away))
+          (subst (λ r. Plans config.external held now result (then_with r next)) (sym ok2)
+          (subst (λ s. Plans config.external held now result (forwarded config rules L now view Lan Lan view.src t.inside s end)) (state_is ∙ ap (first_state config rules L now view) e1)
           (subst (λ v. Plans config.external held now result (unless_dropped v end)) (sym e) plans)))
 
       pub drops_rule : decided ≢ forwarding.Pass → Plans config.external held now (Err Rule) way
       drops_rule other = behind (Err Rule) forwarding.Drop (dropped decided other) refl
 
       module _ (passes : decided ≡ forwarding.Pass) (b2 : Option Held) (e2 : option_map (λ (h : Held). h.session) b2 ≡ find (has_outside view.proto view.dst first.outside) L) where
-        is-second : IsSecond config rules (put first L) view now (option_map (λ (h : Held). h.session) b2) t
-        is-second = subst (λ o. IsSecond config rules (put first L) view now o t) (has-other first L is-first.keeps view.proto view.dst first.outside away ∙ sym e2)
+        is-second : IsSecond config rules (put first L) view now first (option_map (λ (h : Held). h.session) b2) t
+        is-second = subst (λ o. IsSecond config rules (put first L) view now first o t) (has-other first L is-first.keeps view.proto view.dst first.outside away ∙ sym e2)
             (second-is config rules L now view at ports.1 first (put first L) (Rises-put first L sound.rises) (put-In first L) found2 refl t ok2)
 
         total : count_by is_some held + option_map_or (λ (h : Held). 0) b1 1 + option_map_or (λ (h : Held). 0) b2 1 ≡ length (put t (put first L))

@@ -20,7 +20,5 @@ strangers config rules sessions now view m by none udp outside asked found unkno
     ∙ ap (λ (o : Result Endpoint Cause). then_with o (begun_in config rules sessions now view))
     (ap (λ (b : Bool). if b then Ok view.dst else inside_by_rules config rules sessions now view sessions remote (find (maps_outside view.proto view.dst) sessions)
     (prerouting_verdict config (facts_of config rules sessions now view Wan None view.src view.dst New) rules)) outside
-    ∙ ap (inside_by_rules config rules sessions now view sessions remote (find (maps_outside view.proto view.dst) sessions)) asked
-    ∙ ap (by_mapping config.filtering sessions remote) found
-    ∙ ap (λ (f : Filtering). by_mapping f sessions remote (Some m)) by
-    ∙ ap (λ (o : Option Session). if is_some o then Ok m.inside else Err Filtered) unknown)
+    ∙ ap (inside_by_rules config rules sessions now view sessions remote (find (maps_outside view.proto view.dst) sessions)) asked ∙ ap (by_mapping config.filtering sessions remote) found
+    ∙ ap (λ (f : Filtering). by_mapping f sessions remote (Some m)) by ∙ ap (λ (o : Option Session). if is_some o then Ok m.inside else Err Filtered) unknown)

@@ -1,5 +1,5 @@
 -- How a tally follows an update of one slot.
-use Rattle.std.proofs.Common.{◌≡◌, ◌≢◌, ℕ, zero, suc, ◌+◌, ◌<◌, ◌≤◌, List, [], ◌∷◌, Option, Some, None, true, false, cond, get_or, count_by, is_some, refl, sym, ap, ◌∙◌, inl, inr, arith}
+use Rattle.std.proofs.Common.{◌≡◌, ◌≢◌, ℕ, zero, suc, ◌+◌, ◌<◌, ◌≤◌, List, [], ◌∷◌, Option, Some, None, true, false, cond, drop, get_or, count_by, is_some, refl, sym, ap, ◌∙◌, inl, inr, arith}
 use Rattle.std.proofs.lemmas.Bool.{cases_lt, cases_Bool}
 use Rattle.std.proofs.lemmas.Grind.{common_steps}
 use Rattle.sessions.specs.declared.session.Session.{Session}
@@ -9,27 +9,12 @@ use Rattle.mappings.specs.Map.{one_at, same_mapping}
 use Rattle.mappings.proofs.Times.{same_mapping-true}
 use Rattle.hairpin.specs.Tallies.{weight, tally, mapping_of}
 
-first : List (Option Session) → Option Session
-first [] = None
-first (x ∷ xs) = x
-
-rest : List (Option Session) → List (Option Session)
-rest [] = []
-rest (x ∷ xs) = xs
-
-first-is : (xs : List (Option Session)) → get_or xs 0 None ≡ first xs
-unfolding first
-first-is [] = refl
-first-is (x ∷ xs) = refl
-
-rest-is : (xs : List (Option Session)) (k : ℕ) → get_or (rest xs) k None ≡ get_or xs (suc k) None
-unfolding rest
+rest-is : (xs : List (Option Session)) (k : ℕ) → get_or (drop 1 xs) k None ≡ get_or xs (suc k) None
 rest-is [] k = refl
 rest-is (x ∷ xs) k = refl
 
 module _ (p : Mapping) where
-  parts : (xs : List (Option Session)) → tally p xs ≡ weight p (first xs) + tally p (rest xs)
-  unfolding first rest
+  parts : (xs : List (Option Session)) → tally p xs ≡ weight p (get_or xs 0 None) + tally p (drop 1 xs)
   parts [] = refl
   parts (x ∷ xs) = refl
 
@@ -53,17 +38,16 @@ module _ (p : Mapping) where
   tally-update old new zero o is same =
       let a = parts old in
       let b = parts new in
-      let f : weight p (first new) ≡ weight p o = ap (weight p) (sym (first-is new) ∙ is) in
-      let g : weight p (get_or old 0 None) ≡ weight p (first old) = ap (weight p) (first-is old) in
-      let t : tally p (rest new) ≡ tally p (rest old) = tally-same (rest new) (rest old) (λ k. rest-is new k ∙ same (suc k) (λ e. absurd (omega arith)) ∙ sym (rest-is old k)) in
+      let f : weight p (get_or new 0 None) ≡ weight p o = ap (weight p) is in
+      let t : tally p (drop 1 new) ≡ tally p (drop 1 old) = tally-same (drop 1 new) (drop 1 old) (λ k. rest-is new k ∙ same (suc k) (λ e. absurd (omega arith)) ∙ sym (rest-is old k)) in
       omega arith
   tally-update old new (suc slot) o is same =
       let a = parts old in
       let b = parts new in
-      let f : weight p (first new) ≡ weight p (first old) = ap (weight p) (sym (first-is new) ∙ same 0 (λ e. absurd (omega arith)) ∙ first-is old) in
-      let t : tally p (rest new) + weight p (get_or (rest old) slot None) ≡ tally p (rest old) + weight p o =
-      tally-update (rest old) (rest new) slot o (rest-is new slot ∙ is) (λ k away. rest-is new k ∙ same (suc k) (λ e. away (omega arith)) ∙ sym (rest-is old k)) in
-      let g : weight p (get_or (rest old) slot None) ≡ weight p (get_or old (suc slot) None) = ap (weight p) (rest-is old slot) in
+      let f : weight p (get_or new 0 None) ≡ weight p (get_or old 0 None) = ap (weight p) (same 0 (λ e. absurd (omega arith))) in
+      let t : tally p (drop 1 new) + weight p (get_or (drop 1 old) slot None) ≡ tally p (drop 1 old) + weight p o =
+      tally-update (drop 1 old) (drop 1 new) slot o (rest-is new slot ∙ is) (λ k away. rest-is new k ∙ same (suc k) (λ e. away (omega arith)) ∙ sym (rest-is old k)) in
+      let g : weight p (get_or (drop 1 old) slot None) ≡ weight p (get_or old (suc slot) None) = ap (weight p) (rest-is old slot) in
       omega arith
 
   -- what a slot holds counts
@@ -76,10 +60,7 @@ module _ (p : Mapping) where
   pub tally-some : (xs : List (Option Session)) → 0 < tally p xs → (slot : ℕ) × (s : Session) × (get_or xs slot None ≡ Some s) × (0 < weight p (Some s))
   tally-some [] lt = absurd (omega arith)
   tally-some (None ∷ xs) lt = let old = tally-some xs (omega arith) in (suc old.0, old.1, old.2, old.3)
-  tally-some (Some s ∷ xs) lt = elim (cases_lt 0 (weight p (Some s))) [
-    | inl here ↦ (zero, s, refl, here)
-    | inr none ↦ let old = tally-some xs (omega arith) in (suc old.0, old.1, old.2, old.3)
-  ]
+  tally-some (Some s ∷ xs) lt = elim (cases_lt 0 (weight p (Some s))) [ inl here ↦ (zero, s, refl, here) | inr none ↦ let old = tally-some xs (omega arith) in (suc old.0, old.1, old.2, old.3) ]
 
 -- what a session weighs, by whether it is translated
 pub weight-translated : (p : Mapping) (s : Session) → same_endpoint s.inside s.outside ≡ false → weight p (Some s) ≡ one_at p (mapping_of s)

@@ -1,11 +1,11 @@
 use Rattle.std.proofs.Common.{IfSome, IfNone, Ok, sym, subst, ap, ◌∙◌}
 use Rattle.packet.specs.declared.endpoint.Endpoint.{Endpoint}
+use Rattle.portpick.specs.Pool.{near_choice}
 use Rattle.sessions.specs.Laws.{IsMapping}
 use Rattle.sessions.specs.Listing.{listing}
-use Rattle.hairpin.specs.Legs.{outside_near}
+use Rattle.hairpin.specs.Legs.{or_no_port, outside_near}
 use Rattle.hairpin.proofs.Apart.{or_no_port-is}
-use Rattle.hairpin.proofs.Mapped.{chosen_near, mapped}
-use Rattle.hairpin.proofs.Planned.{near_chosen}
+use Rattle.hairpin.proofs.Mapped.{chosen_by, mapped, not_mapped}
 use Rattle.hairpin.proofs.hairpinning.outside_near.Goals as goal
 
 pub returns-in-Some : goal.returns-in-Some
@@ -23,5 +23,5 @@ returns-in-None c = λ rules now.
     let translations = c.requires.hairpins.translations in
     let choice = c.choose_near-choice.result in
     let absent = subst (λ o. IfNone o ((outside : Endpoint) → ¬ IsMapping (listing held) view.proto view.src outside)) c.in-None.is c.requires.mapping.unmapped in
-    let is = chosen_near config c.facts.ensures.valid held c.args.asking.now.translations.now translations view.proto view.src.addr view.src.port choice view.dst.addr c.choose_near-choice.ensures in
-    c.ok_or.ensures.value ∙ or_no_port-is choice ∙ near_chosen config rules (listing held) translations.sound now view choice absent is
+    let is = chosen_by config c.facts.ensures.valid held c.args.asking.now.translations.now translations view.proto view.src.addr choice (λ uses taken pool. near_choice uses taken pool view.dst.addr view.src.port) c.choose_near-choice.ensures in
+    c.ok_or.ensures.value ∙ or_no_port-is choice ∙ ap or_no_port is ∙ sym (ap (outside_near config rules (listing held) now view) (not_mapped config (listing held) translations.sound view.proto view.src absent))

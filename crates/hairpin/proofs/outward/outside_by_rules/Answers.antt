@@ -1,10 +1,11 @@
 use Rattle.std.proofs.Common.{Contains, sym, ap, subst, ◌∙◌}
 use Rattle.packet.specs.Config.{Pool}
+use Rattle.portpick.specs.Pool.{pool_choice}
 use Rattle.sessions.specs.Listing.{listing}
 use Rattle.verdict.specs.Hooks.{postrouting_verdict}
 use Rattle.hairpin.proofs.Apart.{or_no_port-is}
-use Rattle.hairpin.proofs.Mapped.{chosen_at, chosen_pool}
-use Rattle.hairpin.proofs.Opening.{by_masquerade, by_snat}
+use Rattle.hairpin.proofs.Mapped.{chosen_at, chosen_by}
+use Rattle.hairpin.specs.Legs.{or_no_port, outside_by_rules}
 use Rattle.hairpin.proofs.outward.outside_by_rules.Goals as goal
 
 pub choose_at-choice-requires-clause-external : goal.choose_at-choice-requires-clause-external
@@ -23,7 +24,7 @@ returns-in-From c = λ now.
     let listed = c.requires.bounded.from c.facts_out.result addr asked in
     let is = chosen_at config c.facts.ensures.valid held c.args.asking.now.translations.now c.requires.translations view.proto addr view.src.port choice listed c.choose_at-choice.ensures in
     let verdict = ap (λ f. postrouting_verdict config f rules) (sym c.facts_out.ensures) ∙ asked in
-    c.ok_or.ensures.value ∙ or_no_port-is choice ∙ by_snat config rules c.requires.bounded (listing held) now view addr verdict choice is
+    c.ok_or.ensures.value ∙ or_no_port-is choice ∙ ap or_no_port is ∙ sym (ap (outside_by_rules config rules (listing held) now view) verdict)
 
 pub returns-in-Masquerade : goal.returns-in-Masquerade
 returns-in-Masquerade c = λ now.
@@ -33,5 +34,5 @@ returns-in-Masquerade c = λ now.
     let held = c.args.asking.now.table.now.held in
     let choice = c.choose_for-choice.result in
     let verdict = ap (λ f. postrouting_verdict config f rules) (sym c.facts_out.ensures) ∙ sym c.postrouting.ensures ∙ c.in-Masquerade.is in
-    let is = chosen_pool config c.facts.ensures.valid held c.args.asking.now.translations.now c.requires.translations view.proto view.src.addr view.src.port choice c.choose_for-choice.ensures in
-    c.ok_or-in-Masquerade.ensures.value ∙ or_no_port-is choice ∙ by_masquerade config rules c.requires.bounded (listing held) now view verdict choice is
+    let is = chosen_by config c.facts.ensures.valid held c.args.asking.now.translations.now c.requires.translations view.proto view.src.addr choice (λ uses taken pool. pool_choice uses taken pool view.src.port) c.choose_for-choice.ensures in
+    c.ok_or-in-Masquerade.ensures.value ∙ or_no_port-is choice ∙ ap or_no_port is ∙ sym (ap (outside_by_rules config rules (listing held) now view) verdict)
