@@ -10,7 +10,8 @@ use Rattle.machine.specs.Machine.{State, after, no_tables}
 use Rattle.machine.specs.Noted.{IsResumed, lasting}
 use Rattle.machine.specs.Sound.{IsInForce, IsSoundState}
 use Rattle.machine.specs.Laws.{RunsKeepSound}
-use Rattle.gateway.specs.Restarts.{RestartsKeepTheState, again_at}
+use Rattle.gateway.specs.Lives.{again_at}
+use Rattle.gateway.specs.Restarts.{RestartsKeepTheState}
 
 -- a text spells one ruleset at most
 abbrev pub SpelledOnce : Type 0
