@@ -24,8 +24,7 @@ use Rattle.hairpin.proofs.Apart.{taken-from}
 use Rattle.hairpin.proofs.Pairs.{uses-is}
 use Rattle.hairpin.proofs.Soundness.{filter-all}
 use Rattle.machine.specs.Hosts.{IsOccupied}
-use Rattle.machine.specs.Order.{FirstDrops, Reason, cause_of}
-use Rattle.machine.specs.Order.{ForwardDrops}
+use Rattle.machine.specs.Order.{FirstDrops, Reason, cause_of, ForwardDrops}
 use Rattle.machine.specs.Requirements.{NoneInside}
 use Rattle.machine.proofs.Choosing.{full-at}
 
@@ -42,6 +41,11 @@ module _ (Holds : Reason → Type 0) where
 
   pub skipped : (way : Result Passage Cause) (why : Reason) (more : List Reason) → ¬ Holds why → Ordered way more → Ordered way (why ∷ more)
   skipped way why more never rest = ((λ holds. absurd (never holds)), (λ none. rest))
+
+  -- several that don't hold
+  pub skips : (way : Result Passage Cause) (whys more : List Reason) → AllByRecursion (λ why. ¬ Holds why) whys → Ordered way more → Ordered way (whys ++ more)
+  skips way [] more never rest = rest
+  skips way (why ∷ whys) more never rest = skipped way why (whys ++ more) never.0 (skips way whys more never.1 rest)
 
   pub holding : (way : Result Passage Cause) (why : Reason) (more : List Reason) → Holds why → way ≡ Err (cause_of why) → Ordered way (why ∷ more)
   holding way why more holds is = ((λ h. is), (λ none. absurd (none holds)))
@@ -83,9 +87,6 @@ module _ (sessions : List Session) (proto : Proto) (port : ℕ) (some : 0 < port
   pub none-at : (addr : ℕ) → IsFull addr → port_at (is_taken sessions proto) port addr ≡ None
   none-at addr full = ap (option_map (endpoint addr)) ((determined (is_taken sessions proto addr) port some fits).none.1 (λ other alike.
       let held = full other alike in taken-from sessions proto addr other held.0 held.1 held.2 held.3))
-
-  pub some-not-full : (addr : ℕ) (e : Endpoint) → port_at (is_taken sessions proto) port addr ≡ Some e → ¬ IsFull addr
-  some-not-full addr e is full = none-some e (sym (none-at addr full) ∙ is)
 
   -- each of the addresses
   pub all-none : (pool : Pool) → AllByRecursion IsFull pool → first_port (is_taken sessions proto) port pool ≡ None

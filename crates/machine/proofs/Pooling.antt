@@ -15,8 +15,7 @@ use Rattle.packet.specs.declared.endpoint.Iface.TheVariants.{Lan, Wan}
 use Rattle.packet.specs.declared.fault.Fault.{Fault}
 use Rattle.packet.specs.declared.fault.Fault.TheVariants as fault
 use Rattle.packet.specs.declared.route.Route.{Route}
-use Rattle.packet.specs.declared.route.Route.TheVariants.{Out, Hairpin}
-use Rattle.packet.specs.declared.route.Route.TheVariants.{In as InRoute}
+use Rattle.packet.specs.declared.route.Route.TheVariants.{Out, Hairpin, In as InRoute}
 use Rattle.packet.specs.declared.route.RouteFault.{RouteFault}
 use Rattle.packet.specs.declared.route.RouteFault.TheVariants as route_fault
 use Rattle.packet.specs.declared.view.View.{View}
@@ -145,31 +144,17 @@ module _ (config : Config) (s : State) (judged : Judged) (bytes : List ℕ) (vie
 
 fault-not : (f : Fault) → fault_number f ≢ 14
 fault-not fault.Short e = omega (arith, e)
-fault-not fault.Version e = omega (arith, e)
-fault-not fault.HeaderLength e = omega (arith, e)
-fault-not fault.Length e = omega (arith, e)
-fault-not fault.HeaderSum e = omega (arith, e)
-fault-not fault.Fragment e = omega (arith, e)
-fault-not fault.Protocol e = omega (arith, e)
-fault-not fault.Transport e = omega (arith, e)
-fault-not fault.PortZero e = omega (arith, e)
+fault-not f e = omega (arith, e)
 
 route-not : (f : RouteFault) → route_fault_number f ≢ 14
 route-not route_fault.Ttl e = omega (arith, e)
-route-not route_fault.Spoofed e = omega (arith, e)
-route-not route_fault.NoRoute e = omega (arith, e)
+route-not f e = omega (arith, e)
 
 number-once : (c : Cause) → cause_number c ≡ 14 → c ≡ cause.Filtered
 number-once (cause.Packet f) e = absurd (fault-not f e)
 number-once (cause.Route f) e = absurd (route-not f e)
-number-once cause.NoMapping e = absurd (omega (arith, e))
 number-once cause.Filtered e = refl
-number-once cause.NoSession e = absurd (omega (arith, e))
-number-once cause.Rule e = absurd (omega (arith, e))
-number-once cause.Clash e = absurd (omega (arith, e))
-number-once cause.SelfMapped e = absurd (omega (arith, e))
-number-once cause.NoPort e = absurd (omega (arith, e))
-number-once cause.TableFull e = absurd (omega (arith, e))
+number-once c e = absurd (omega (arith, e))
 
 -- what is sent is dropped so only where its leg says so
 sent-filtered : (s : State) (bytes : List ℕ) (Q : Cause → Type 0) (way : Result Passage Cause) → IfErr way Q → (sent s bytes way).1 ≡ Dropped (cause_number cause.Filtered) → Q cause.Filtered
@@ -215,10 +200,8 @@ module _ (config : Config) (s : State) where
   fields-filtered iface bytes (Ok view) e = route-filtered bytes view (route config iface view) e
 
   act-filtered : (d : Deed) → (act config s d).1 ≡ Dropped (cause_number cause.Filtered) → config.filtering ≡ filtering.Address
-  act-filtered (deed.Take text rules) e = absurd cc
-  act-filtered (deed.Refuse text) e = absurd cc
   act-filtered (deed.Packet iface bytes) e = fields-filtered iface bytes (fields bytes) e
-  act-filtered deed.Moment e = absurd cc
+  act-filtered d e = absurd cc
 
 pub step-filtered : (config : Config) (s : State) (judged : Judged) → (step config s judged).1 ≡ Dropped (cause_number cause.Filtered) → config.filtering ≡ filtering.Address
 unfolding step
