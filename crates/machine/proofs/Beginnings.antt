@@ -3,16 +3,12 @@ use Rattle.std.proofs.Common.{◌≡◌, ◌≢◌, ◌⊎◌, ℕ, Bool, true, 
 use Rattle.std.specs.Prelude.{find}
 use Rattle.std.proofs.lemmas.Bool.{false≢true}
 use Rattle.packet.specs.Config.{Config, is_inside}
-use Rattle.packet.specs.Fields.{fields}
-use Rattle.packet.specs.Route.{route}
 use Rattle.packet.proofs.Routes.{routed_is_on_route}
 use Rattle.packet.specs.declared.endpoint.Endpoint.{Endpoint}
 use Rattle.packet.specs.declared.endpoint.Iface.{Iface}
 use Rattle.packet.specs.declared.endpoint.Iface.TheVariants.{Lan, Wan}
-use Rattle.packet.specs.declared.fault.Fault.{Fault}
 use Rattle.packet.specs.declared.route.Route.{Route}
 use Rattle.packet.specs.declared.route.Route.TheVariants.{Out, Hairpin, In as InRoute}
-use Rattle.packet.specs.declared.route.RouteFault.{RouteFault}
 use Rattle.packet.specs.declared.view.View.{View}
 use Rattle.sessions.specs.Listing.{In, has_inside, has_outside, put, same_flow}
 use Rattle.sessions.specs.Table.{HasInside, HasOutside}
@@ -22,21 +18,19 @@ use Rattle.sessions.specs.declared.session.Session.{Session}
 use Rattle.sessions.proofs.Clashing.{apart-from}
 use Rattle.verdict.specs.Hooks.{prerouting_verdict}
 use Rattle.verdict.specs.declared.facts.State.TheVariants.{New}
-use Rattle.hairpin.specs.Legs.{Passage, facts_of, first_state, in_leg, inside_by_rules, inside_for, maps_outside, needs_session, out_leg, passed_by, put_all}
+use Rattle.hairpin.specs.Legs.{Passage, facts_of, first_state, in_leg, inside_by_rules, inside_for, maps_inside, maps_outside, needs_session, out_leg, passed_by, put_all}
 use Rattle.hairpin.specs.declared.cause.Cause.{Cause}
 use Rattle.hairpin.proofs.Apart.{find-In, same_Ok}
 use Rattle.hairpin.proofs.Doubling.{passed-flow, passed-keys, put-In}
 use Rattle.machine.specs.Judged.{Judged, brought}
 use Rattle.machine.specs.Laws.{Came, LetsPass, living}
-use Rattle.machine.specs.Machine.{State, act, leg, on_route, sent, step, with_fields}
+use Rattle.machine.specs.Machine.{State, leg, sent, step}
 use Rattle.machine.specs.Requirements.{IsCalled, IsCalledNear, NoneInside, PacketsOutCameIn, PassesByBoth, Reaches, SessionsBeginByPackets}
-use Rattle.machine.specs.declared.deed.Deed.{Deed}
-use Rattle.machine.specs.declared.deed.Deed.TheVariants as deed
 use Rattle.machine.specs.declared.event.Answer.{Answer}
 use Rattle.machine.proofs.Left.{step-of}
-use Rattle.machine.proofs.Called.{called, called-near, comes, comes-before, state-out}
+use Rattle.machine.proofs.Called.{called-by, comes, comes-before, near-by, state-out}
 use Rattle.machine.proofs.Passages.{BeginsIn, BeginsOut, FirstBegins, FirstGoesOn, Hairpinned, SecondBegins, SecondGoesOn, hairpin-told, in-told, new_in, new_out, out-told}
-use Rattle.machine.proofs.Passing.{step-planned}
+use Rattle.machine.proofs.Passing.{act-told, step-planned}
 use Rattle.machine.proofs.Refreshing.{apart-flows, first-used, put-stays, second-used}
 use Rattle.machine.proofs.Soundness.{external-is, put_all-member}
 
@@ -105,30 +99,6 @@ module _ (config : Config) (live : State) (view : View) (u : Session) (new : Non
   needs-leg InRoute p h is = (made-in p h is).1
   needs-leg Hairpin p h is = elim (made-both p (hairpin-told config live.rules sessions now view p h) is) [ inl first ↦ first.1.1 | inr far ↦ far.1.1 ]
 
--- ---- nothing but a packet
-
-module _ (config : Config) (live : State) (u : Session) (new : NoneInside live.sessions u.proto u.inside u.remote) where
-  abbrev Brings : Deed → Type 0
-  Brings d = (iface : Iface) × (bytes : List ℕ) × (view : View) × (r : Route) × (d ≡ deed.Packet iface bytes) × (fields bytes ≡ Ok view) × (route config iface view ≡ Ok r) × (needs_session view ≡ false)
-
-  held-not : In u live.sessions → ⊥
-  held-not is = new u is (refl, refl, refl)
-
-  route-brings : (iface : Iface) (bytes : List ℕ) (view : View) → fields bytes ≡ Ok view → (r : Result Route RouteFault) → route config iface view ≡ r
-      → In u (on_route config live bytes view r).0.sessions → Brings (deed.Packet iface bytes)
-  route-brings iface bytes view fields_are (Err fault) route_is is = absurd (held-not is)
-  route-brings iface bytes view fields_are (Ok r) route_is is =
-      let made = made-by config live view u new bytes (leg config live view r) is in
-      (iface, bytes, view, r, refl, fields_are, route_is, needs-leg config live view u new r made.0 made.1 made.2)
-
-  fields-brings : (iface : Iface) (bytes : List ℕ) (f : Result View Fault) → fields bytes ≡ f → In u (with_fields config live iface bytes f).0.sessions → Brings (deed.Packet iface bytes)
-  fields-brings iface bytes (Err fault) fields_are is = absurd (held-not is)
-  fields-brings iface bytes (Ok view) fields_are is = route-brings iface bytes view fields_are (route config iface view) refl is
-
-  act-brings : (d : Deed) → In u (act config live d).0.sessions → Brings d
-  act-brings (deed.Packet iface bytes) is = fields-brings iface bytes (fields bytes) refl is
-  act-brings d is = absurd (held-not is)
-
 -- ---- where a packet from wan comes to
 
 module _ (config : Config) (live : State) (view : View) where
@@ -174,7 +144,7 @@ module _ (config : Config) (s : State) (judged : Judged) (bytes : List ℕ) (vie
       let same : o ≡ u.outside = ap (λ (v : Session). v.outside) (sym e) in (
         (ap (λ (v : Session). v.proto) e, ap (λ (v : Session). v.inside) e, ap (λ (v : Session). v.remote) e),
         ap (λ (v : Session). v.opener) e,
-        subst (IsCalled config live view) same (called config live view o begun.2.1),
+        subst (IsCalled config live view) same (called-by config live view (find (maps_inside view.proto view.src) live.sessions) refl o begun.2.1),
         begun.2.3,
       )
 
@@ -209,7 +179,7 @@ module _ (config : Config) (s : State) (judged : Judged) (bytes : List ℕ) (vie
       let either : IsEither first far = elim (made-both config live view u new made.0 both made.2) [
         | inl begun ↦
             let new_is = begun.0 ∙ begun.1.2.2 in
-            let near = called-near config live view at begun.1.2.0 begun.1.2.1 in
+            let near = near-by config live view at (find (maps_inside view.proto view.src) live.sessions) refl begun.1.2.0 begun.1.2.1 in
             inl (begun.0, ap (λ (v : Session). v.opener) new_is, subst (IsCalledNear config live view) (ap (λ (v : Session). v.outside) (sym new_is)) near)
         | inr begun ↦
             let new_is = begun.0 ∙ begun.1.2.3 in
@@ -225,8 +195,14 @@ pub begin-by-packets : SessionsBeginByPackets
 unfolding step
 begin-by-packets = record {
   any = λ config s judged u began.
-      let by = act-brings config (living s judged) u began.new judged.deed began.is_held in
-      (by.0, by.1, by.2, by.3, record { deed_is = by.4; fields_are = by.5; route_is = by.6 }, by.7);
+      let live = living s judged in
+      elim (act-told config live judged.deed) [
+        | inl told ↦
+            let made = made-by config live told.2 u began.new told.1 (leg config live told.2 told.3) (subst (λ (done : State × Answer). In u done.0.sessions) told.7 began.is_held) in
+            let needs = needs-leg config live told.2 u began.new told.3 made.0 made.1 made.2 in
+            (told.0, told.1, told.2, told.3, record { deed_is = told.4; fields_are = told.5; route_is = told.6 }, needs)
+        | inr rests ↦ absurd (began.new u (subst (In u) rests.0 began.is_held) (refl, refl, refl))
+      ];
   outbound = λ config s judged bytes view u began came. begun-outbound config s judged bytes view u began.new began.is_held came;
   inbound = λ config s judged bytes view u began came. begun-inbound config s judged bytes view u began.new began.is_held came;
   hairpin = λ config s judged bytes view u began came. begun-hairpin config s judged bytes view u began.new began.is_held came;

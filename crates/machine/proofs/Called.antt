@@ -88,22 +88,16 @@ module _ (config : Config) (live : State) (view : View) where
       inr (inr (e, (choice_is_listed uses taken config.external view.src.port o (port-ok (pool_choice uses taken config.external view.src.port) o h)).0))
   called-rules source.Drop e o h = absurd (err-ok Rule o h)
 
-  called-by : (found : Option Session) → find (maps_inside view.proto view.src) sessions ≡ found → (o : Endpoint) → outside_for config live.rules sessions now view found ≡ Ok o → IsCalled config live view o
+  pub called-by : (found : Option Session) → find (maps_inside view.proto view.src) sessions ≡ found → (o : Endpoint) → outside_for config live.rules sessions now view found ≡ Ok o → IsCalled config live view o
   called-by (Some m) e o h = inl (is-mapped m e o (same_Ok m.outside o h))
   called-by None e o h = inr (not-mapped e, called-rules how refl o h)
 
-  pub called : (o : Endpoint) → outside_for config live.rules sessions now view (find (maps_inside view.proto view.src) sessions) ≡ Ok o → IsCalled config live view o
-  called o h = called-by (find (maps_inside view.proto view.src) sessions) refl o h
-
-  near-by : Contains config.external view.dst.addr → (found : Option Session) → find (maps_inside view.proto view.src) sessions ≡ found → (o : Endpoint) → outside_near config live.rules sessions now view found ≡ Ok o → IsCalledNear config live view o
+  pub near-by : Contains config.external view.dst.addr → (found : Option Session) → find (maps_inside view.proto view.src) sessions ≡ found → (o : Endpoint) → outside_near config live.rules sessions now view found ≡ Ok o → IsCalledNear config live view o
   near-by at (Some m) e o h = inl (is-mapped m e o (same_Ok m.outside o h))
   near-by at None e o h =
       let uses = uses_in sessions view.src.addr in
       let taken = is_taken sessions view.proto in
       inr (not-mapped e, near-listed uses taken config.external view.src.port view.dst.addr o at (port-ok (near_choice uses taken config.external view.dst.addr view.src.port) o h))
-
-  pub called-near : Contains config.external view.dst.addr → (o : Endpoint) → outside_near config live.rules sessions now view (find (maps_inside view.proto view.src) sessions) ≡ Ok o → IsCalledNear config live view o
-  called-near at o h = near-by at (find (maps_inside view.proto view.src) sessions) refl o h
 
   -- ---- the state that it has by the session that takes it out
 

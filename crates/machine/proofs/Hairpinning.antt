@@ -292,7 +292,4 @@ module _ (config : Config) (s : State) (judged : Judged) (bytes : List ℕ) (vie
       ∙ ap (λ x. Forward Lan (translated bytes first.outside x)) (sym back-keys.inside)
 
 pub hairpins-come-in : HairpinsComeIn
-hairpins-come-in = record {
-  begins = λ config s judged bytes view source inside is_one sound comes. begun config s judged bytes view source inside is_one sound comes;
-  goes_on = λ config s judged bytes view first far sound comes. gone-on config s judged bytes view first far sound comes;
-}
+hairpins-come-in = record { begins = begun; goes_on = gone-on }

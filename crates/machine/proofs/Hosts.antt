@@ -47,10 +47,6 @@ fits-passed host sessions s sender view now one in_s =
 -- ---- what a leg puts in
 
 module _ (config : Config) (rules : Spelled) (now : ℕ) (view : View) (host : ℕ) (free : LeaveToPool config rules host) where
-  -- a session that is not translated fits
-  fits-plain : (sessions : List Session) (opener : Opener) (inside outside remote : Endpoint) → inside ≡ outside → Fits host sessions (new_session config rules sessions now view opener inside outside remote)
-  fits-plain sessions opener inside outside remote same = λ away. absurd (away.0 same)
-
   -- what the inside endpoint of a mapping that is held is, or of a rule, fits
   fits-rules : (sessions : List Session) → IsAtOne sessions host → (facts : Facts) (opener : Opener) (inside remote : Endpoint) (from : ℕ) (d : Destination) → prerouting_verdict config facts rules ≡ d
       → inside_by_rules config rules sessions now view sessions from (find (maps_outside view.proto view.dst) sessions) d ≡ Ok inside
@@ -86,7 +82,7 @@ module _ (config : Config) (rules : Spelled) (now : ℕ) (view : View) (host : �
 
       fits-source : (how : Source) → postrouting_verdict config (facts_of config rules sessions now view Lan (Some Wan) view.src view.dst New) rules ≡ how
           → (outside : Endpoint) → outside_by_rules config rules sessions now view how ≡ Ok outside → Chosen outside
-      fits-source source.None e outside h = fits-plain sessions Inside view.src outside view.dst (same_Ok view.src outside h)
+      fits-source source.None e outside h = λ away. absurd (away.0 (same_Ok view.src outside h))
       fits-source (source.From addr) e outside h = λ away. absurd (free.source (facts_of config rules sessions now view Lan (Some Wan) view.src view.dst New) addr away.1 e)
       fits-source source.Masquerade e outside h = fits-at outside (λ addr at is_listed.
           let taken = is_taken sessions view.proto in
@@ -112,7 +108,7 @@ module _ (config : Config) (rules : Spelled) (now : ℕ) (view : View) (host : �
           → (if b then Ok view.dst else inside_by_rules config rules sessions now view sessions view.src.addr (find (maps_outside view.proto view.dst) sessions)
           (prerouting_verdict config (facts_of config rules sessions now view Wan None view.src view.dst New) rules)) ≡ Ok inside
           → Fits host sessions (new_session config rules sessions now view Remote inside view.dst view.src)
-      fits-in true inside h = fits-plain sessions Remote inside view.dst view.src (sym (same_Ok view.dst inside h))
+      fits-in true inside h = λ away. absurd (away.0 (sym (same_Ok view.dst inside h)))
       fits-in false inside h =
           let facts = facts_of config rules sessions now view Wan None view.src view.dst New in
           fits-rules sessions one facts Remote inside view.src view.src.addr (prerouting_verdict config facts rules) refl h

@@ -126,9 +126,6 @@ module _ (config : Config) (rules : Spelled) (sessions : List Session) (now : �
       err-unless Q {A = Passage} (is_some (find (clashes t) sessions)) Clash (forwarded config rules sessions now view Wan Lan view.src inside New (counted config rules sessions now view (inward t))) (others Clash (λ e. cc))
       (err-filtered Q {A = Passage} _ (counted config rules sessions now view (inward t)) (others Rule (λ e. cc)) (begun-err (inward t)))))
 
-  pub in-dropped : IfErr (inside_for config rules sessions now view) Q → IfErr (in_leg config rules sessions now view) Q
-  in-dropped far = in-err far (find (has_outside view.proto view.dst view.src) sessions)
-
   -- one that hairpins is as the far inside endpoint is found
   near-err : (found : Option Session) → IfErr (outside_near config rules sessions now view found) Q
   near-err (Some m) = tt
@@ -177,9 +174,9 @@ module _ (config : Config) (rules : Spelled) (sessions : List Session) (now : �
 
   pub in-stranger : ((m : Session) → is_inside config view.dst.addr ≡ false → find (maps_outside view.proto view.dst) sessions ≡ Some m → lets_in config.filtering sessions m view.src.addr ≡ false → Q Filtered)
       → IfErr (in_leg config rules sessions now view) Q
-  in-stranger stranger = in-dropped (near-in (is_inside config view.dst.addr) (λ outside.
+  in-stranger stranger = in-err (near-in (is_inside config view.dst.addr) (λ outside.
       rules-err sessions view.src.addr (find (maps_outside view.proto view.dst) sessions) (λ m. stranger m outside)
-      (prerouting_verdict config (facts_of config rules sessions now view Wan None view.src view.dst New) rules)))
+      (prerouting_verdict config (facts_of config rules sessions now view Wan None view.src view.dst New) rules))) (find (has_outside view.proto view.dst view.src) sessions)
 
   pub hairpin-stranger : ((held : List Session) (remote : ℕ) (m : Session) → lets_in config.filtering held m remote ≡ false → Q Filtered) → IfErr (hairpin_leg config rules sessions now view) Q
   hairpin-stranger stranger = hairpin-dropped (λ first held.

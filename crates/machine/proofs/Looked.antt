@@ -65,15 +65,11 @@ module _ (Holds : Reason → Type 0) where
 
 -- ---- one session more
 
-new-flows : (t : Session) (sessions : List Session) → NoneInside sessions t.proto t.inside t.remote → length (put t sessions) ≡ length sessions + 1
-new-flows t sessions none =
-    ap (λ (xs : List Session). length (insert t xs)) (filter-all (λ u. not (same_flow t u)) sessions (λ u in_u. ap not (false_from_ne_true _ (λ h. none u in_u (has_inside-true t.proto t.inside t.remote u h)))))
-    ∙ length-insert t sessions
-
 -- the test of too many
 pub one-more : (t : Session) (sessions : List Session) → NoneInside sessions t.proto t.inside t.remote → (nat_lt 65536 (length (put t sessions)) ≡ true → 65536 ≤ length sessions) × (65536 ≤ length sessions → nat_lt 65536 (length (put t sessions)) ≡ true)
 one-more t sessions none =
-    let many = new-flows t sessions none in (
+    let others = filter-all (λ u. not (same_flow t u)) sessions (λ u in_u. ap not (false_from_ne_true _ (λ h. none u in_u (has_inside-true t.proto t.inside t.remote u h)))) in
+    let many : length (put t sessions) ≡ length sessions + 1 = ap (λ (xs : List Session). length (insert t xs)) others ∙ length-insert t sessions in (
       (λ h. omega (arith, many, ltb-true 65536 (length (put t sessions)) h)),
       (λ le. lt-ltb 65536 (length (put t sessions)) (omega (arith, many, le))),
     )
@@ -115,9 +111,6 @@ module _ (sessions : List Session) (host : ℕ) where
   abbrev IsFirstOf : Pool → ℕ → Type 0
   IsFirstOf pool addr = (before : Pool) × (behind : Pool) × (pool ≡ before ++ addr ∷ behind) × AllByRecursion (λ a. ¬ IsAt sessions host a) before × IsAt sessions host addr
 
-  not-used : (a : ℕ) → uses_in sessions host a ≡ false → ¬ IsAt sessions host a
-  not-used a h at = false≢true (sym h ∙ is-uses sessions host a at)
-
   pub first-of : (pool : Pool) (addr : ℕ) → find (uses_in sessions host) pool ≡ Some addr → IsFirstOf pool addr
   first-of [] addr h = absurd (none-some addr h)
   first-of (a ∷ pool) addr h = elim (cases_Bool (uses_in sessions host a)) [
@@ -126,7 +119,7 @@ module _ (sessions : List Session) (host : ℕ) where
         subst (IsFirstOf (a ∷ pool)) same ([], pool, refl, tt, uses-is sessions host a is)
     | inr isnt ↦
         let rest = first-of pool addr (sym (ap (λ b. cond b (Some a) (find (uses_in sessions host) pool)) isnt) ∙ h) in
-        (a ∷ rest.0, rest.1, ap (λ (p : Pool). a ∷ p) rest.2, (not-used a isnt, rest.3), rest.4)
+        (a ∷ rest.0, rest.1, ap (λ (p : Pool). a ∷ p) rest.2, ((λ at. false≢true (sym isnt ∙ is-uses sessions host a at)), rest.3), rest.4)
   ]
 
   find-behind : (before behind : Pool) (addr : ℕ) → AllByRecursion (λ a. ¬ IsAt sessions host a) before → IsAt sessions host addr → find (uses_in sessions host) (before ++ addr ∷ behind) ≡ Some addr

@@ -1,5 +1,5 @@
 -- What becomes of packets of living sessions and mappings.
-use Rattle.std.proofs.Common.{◌≡◌, ◌≢◌, ℕ, ◌+◌, ◌<◌, ◌≤◌, List, [], ◌∷◌, length, Some, Result, Ok, Err, true, false, not, nat_lt, if◌then◌else◌, refl, sym, ap, ◌∙◌, subst, inl, inr, arith}
+use Rattle.std.proofs.Common.{◌≡◌, ◌≢◌, ◌⊎◌, ℕ, ◌+◌, ◌<◌, ◌≤◌, List, [], ◌∷◌, length, Some, Result, Ok, Err, true, false, not, nat_lt, if◌then◌else◌, refl, sym, ap, ◌∙◌, subst, inl, inr, arith}
 use Rattle.std.specs.Prelude.{find}
 use Rattle.std.specs.List.{filter}
 use Rattle.std.proofs.lemmas.Bool.{le-ltb, lt-ltb, ltb-true}
@@ -29,7 +29,6 @@ use Rattle.sessions.proofs.Sets.{In-filter, below-itself, below-keys, filter-In}
 use Rattle.verdict.specs.Hooks.{forward_verdict}
 use Rattle.verdict.specs.declared.facts.State.TheVariants.{New}
 use Rattle.hairpin.specs.Legs.{Passage, begun_out, counted, in_by, inward, maps_inside, needs_session, new_session, out_by, outside_for, outward, passed_by, put_all, connection_of, then_with, unless_dropped}
-use Rattle.hairpin.specs.declared.cause.Cause.{Cause}
 use Rattle.hairpin.specs.declared.cause.Cause.TheVariants.{NoSession, TableFull}
 use Rattle.hairpin.proofs.Apart.{agree, cases_endpoint, maps-from, maps-parts}
 use Rattle.hairpin.proofs.Doubling.{passed-keys}
@@ -42,15 +41,12 @@ use Rattle.machine.specs.declared.deed.Deed.{Deed}
 use Rattle.machine.specs.declared.deed.Deed.TheVariants as deed
 use Rattle.machine.specs.declared.event.Answer.{Answer}
 use Rattle.machine.specs.declared.event.Answer.TheVariants.{Forward}
-use Rattle.machine.proofs.Steps.{on_packet-is}
+use Rattle.machine.proofs.Left.{sent-passed, step-of}
 
 -- the answer to a packet that came is that of its leg, at the sessions that are alive
 pub answer-of : (config : Config) (s : State) (judged : Judged) (iface : Iface) (bytes : List ℕ) (view : View) (r : Route) → Came config judged iface bytes view r
     → (step config s judged).1 ≡ (on_route config (aged (later s.clock judged.moment) s) bytes view (Ok r)).1
-unfolding step
-answer-of config s judged iface bytes view r came =
-    let live = aged (later s.clock judged.moment) s in
-    ap (λ w. (act config live w).1) came.deed_is ∙ ap (λ (p : State × Answer). p.1) (on_packet-is config iface bytes view r came.fields_are came.route_is live)
+answer-of config s judged iface bytes view r came = ap (λ (p : State × Answer). p.1) (step-of config s judged iface bytes view r came)
 
 -- a packet of a session leaves with the session's endpoints
 in-answer : (s : State) (bytes : List ℕ) (t : Session) (flags : Flags) (now : ℕ) → (sent s bytes (Ok (inward (passed_by t Remote flags now)))).1 ≡ Forward Lan (translated bytes t.remote t.inside)
@@ -158,27 +154,36 @@ IsWay config live d out packet left =
     × (leg config live view r ≡ Ok passage) × (out ≡ passage.iface) × (packet ≡ translated bytes passage.src passage.dst)
     × (left ≡ put_all passage.sessions live.sessions)
 
-module _ (config : Config) (live : State) (iface : Iface) (bytes : List ℕ) (out : Iface) (packet : List ℕ) where
-  sent-planned : (view : View) (r : Route) → fields bytes ≡ Ok view → route config iface view ≡ Ok r → (way : Result Passage Cause) → leg config live view r ≡ way
-      → (sent live bytes way).1 ≡ Forward out packet → IsWay config live (deed.Packet iface bytes) out packet (sent live bytes way).0.sessions
-  sent-planned view r fields_are route_is (Err cause) leg_is e = absurd cc
-  sent-planned view r fields_are route_is (Ok passage) leg_is e = (iface, bytes, view, r, passage, refl, fields_are, route_is, leg_is, cc, cc, refl)
+-- a deed comes to the leg of a packet, or nothing is forwarded and the sessions stay
+abbrev pub ComesTo : Config → State → Deed → State × Answer → Type 0
+ComesTo config live d done =
+    ((iface : Iface) × (bytes : List ℕ) × (view : View) × (r : Route)
+    × (d ≡ deed.Packet iface bytes) × (fields bytes ≡ Ok view) × (route config iface view ≡ Ok r) × (done ≡ sent live bytes (leg config live view r)))
+    ⊎ ((done.0.sessions ≡ live.sessions) × ((out : Iface) (packet : List ℕ) → done.1 ≢ Forward out packet))
 
-  route-planned : (view : View) → fields bytes ≡ Ok view → (r : Result Route RouteFault) → route config iface view ≡ r
-      → (on_route config live bytes view r).1 ≡ Forward out packet → IsWay config live (deed.Packet iface bytes) out packet (on_route config live bytes view r).0.sessions
-  route-planned view fields_are (Err fault) route_is e = absurd cc
-  route-planned view fields_are (Ok r) route_is e = sent-planned view r fields_are route_is (leg config live view r) refl e
+module _ (config : Config) (live : State) (iface : Iface) (bytes : List ℕ) where
+  route-told : (view : View) → fields bytes ≡ Ok view → (r : Result Route RouteFault) → route config iface view ≡ r → ComesTo config live (deed.Packet iface bytes) (on_route config live bytes view r)
+  route-told view fields_are (Err fault) route_is = inr (refl, λ out packet e. cc)
+  route-told view fields_are (Ok r) route_is = inl (iface, bytes, view, r, refl, fields_are, route_is, refl)
 
-  fields-planned : (f : Result View Fault) → fields bytes ≡ f
-      → (with_fields config live iface bytes f).1 ≡ Forward out packet → IsWay config live (deed.Packet iface bytes) out packet (with_fields config live iface bytes f).0.sessions
-  fields-planned (Err fault) fields_are e = absurd cc
-  fields-planned (Ok view) fields_are e = route-planned view fields_are (route config iface view) refl e
+  fields-told : (f : Result View Fault) → fields bytes ≡ f → ComesTo config live (deed.Packet iface bytes) (with_fields config live iface bytes f)
+  fields-told (Err fault) fields_are = inr (refl, λ out packet e. cc)
+  fields-told (Ok view) fields_are = route-told view fields_are (route config iface view) refl
 
-act-planned : (config : Config) (live : State) (d : Deed) (out : Iface) (packet : List ℕ) → (act config live d).1 ≡ Forward out packet → IsWay config live d out packet (act config live d).0.sessions
-act-planned config live (deed.Packet iface bytes) out packet e = fields-planned config live iface bytes out packet (fields bytes) refl e
-act-planned config live d out packet e = absurd cc
+pub act-told : (config : Config) (live : State) (d : Deed) → ComesTo config live d (act config live d)
+act-told config live (deed.Packet iface bytes) = fields-told config live iface bytes (fields bytes) refl
+act-told config live d = inr (refl, λ out packet e. cc)
 
 pub step-planned : (config : Config) (s : State) (judged : Judged) (out : Iface) (packet : List ℕ) → (step config s judged).1 ≡ Forward out packet
     → IsWay config (aged (later s.clock judged.moment) s) judged.deed out packet (step config s judged).0.sessions
 unfolding step
-step-planned config s judged out packet e = act-planned config (aged (later s.clock judged.moment) s) judged.deed out packet e
+step-planned config s judged out packet e =
+    let live = aged (later s.clock judged.moment) s in
+    elim (act-told config live judged.deed) [
+      | inl told ↦
+          let way = leg config live told.2 told.3 in
+          let passed = sent-passed live way told.1 out packet (ap (λ (done : State × Answer). done.1) (sym told.7) ∙ e) in
+          let left_is = ap (λ (done : State × Answer). done.0.sessions) told.7 ∙ ap (λ (after : State). after.sessions) passed.after_is in
+          (told.0, told.1, told.2, told.3, passed.passage, told.4, told.5, told.6, passed.passes, passed.out_is, passed.packet_is, left_is)
+      | inr rests ↦ absurd (rests.1 out packet e)
+    ]
