@@ -5,6 +5,7 @@ use Rattle.std.specs.List.{filter}
 use Rattle.std.proofs.lemmas.Bool.{le-ltb, lt-ltb, ltb-true}
 use Rattle.packet.specs.Config.{Config}
 use Rattle.packet.specs.Fields.{fields}
+use Rattle.packet.specs.Numbers.{fault_number, route_fault_number}
 use Rattle.packet.specs.Route.{route}
 use Rattle.packet.specs.Translated.{translated}
 use Rattle.packet.specs.declared.endpoint.Endpoint.{Endpoint}
@@ -13,9 +14,11 @@ use Rattle.packet.specs.declared.endpoint.Iface.{Iface}
 use Rattle.packet.specs.declared.endpoint.Iface.TheVariants.{Lan, Wan}
 use Rattle.packet.specs.declared.endpoint.Proto.{Proto}
 use Rattle.packet.specs.declared.fault.Fault.{Fault}
+use Rattle.packet.specs.declared.fault.Fault.TheVariants as fault
 use Rattle.packet.specs.declared.route.Route.{Route}
 use Rattle.packet.specs.declared.route.Route.TheVariants.{Out, In as InRoute}
 use Rattle.packet.specs.declared.route.RouteFault.{RouteFault}
+use Rattle.packet.specs.declared.route.RouteFault.TheVariants as route_fault
 use Rattle.packet.specs.declared.view.View.{View}
 use Rattle.sessions.specs.Laws.{IsMapping}
 use Rattle.sessions.specs.Life.{IsAlive, alive}
@@ -29,7 +32,8 @@ use Rattle.sessions.proofs.Sets.{In-filter, below-itself, below-keys, filter-In}
 use Rattle.verdict.specs.Hooks.{forward_verdict}
 use Rattle.verdict.specs.declared.facts.State.TheVariants.{New}
 use Rattle.hairpin.specs.Legs.{Passage, begun_out, counted, in_by, inward, maps_inside, needs_session, new_session, out_by, outside_for, outward, passed_by, put_all, connection_of, then_with, unless_dropped}
-use Rattle.hairpin.specs.declared.cause.Cause.TheVariants.{NoSession, TableFull}
+use Rattle.hairpin.specs.Causes.{cause_number}
+use Rattle.hairpin.specs.declared.cause.Cause.TheVariants.{Filtered, NoSession, TableFull}
 use Rattle.hairpin.proofs.Apart.{agree, cases_endpoint, maps-from, maps-parts}
 use Rattle.hairpin.proofs.Doubling.{passed-keys}
 use Rattle.hairpin.proofs.Soundness.{filter-most}
@@ -40,7 +44,7 @@ use Rattle.machine.specs.Sound.{IsSoundState}
 use Rattle.machine.specs.declared.deed.Deed.{Deed}
 use Rattle.machine.specs.declared.deed.Deed.TheVariants as deed
 use Rattle.machine.specs.declared.event.Answer.{Answer}
-use Rattle.machine.specs.declared.event.Answer.TheVariants.{Forward}
+use Rattle.machine.specs.declared.event.Answer.TheVariants.{Dropped, Forward}
 use Rattle.machine.proofs.Left.{sent-passed, step-of}
 
 -- the answer to a packet that came is that of its leg, at the sessions that are alive
@@ -154,25 +158,34 @@ IsWay config live d out packet left =
     × (leg config live view r ≡ Ok passage) × (out ≡ passage.iface) × (packet ≡ translated bytes passage.src passage.dst)
     × (left ≡ put_all passage.sessions live.sessions)
 
--- a deed comes to the leg of a packet, or nothing is forwarded and the sessions stay
+-- no fault has the number of a packet that is filtered
+pub fault-not : (f : Fault) → fault_number f ≢ 14
+fault-not fault.Short e = omega (arith, e)
+fault-not f e = omega (arith, e)
+
+pub route-not : (f : RouteFault) → route_fault_number f ≢ 14
+route-not route_fault.Ttl e = omega (arith, e)
+route-not f e = omega (arith, e)
+
+-- a deed comes to the leg of a packet; or the sessions stay, and nothing is forwarded or filtered
 abbrev pub ComesTo : Config → State → Deed → State × Answer → Type 0
 ComesTo config live d done =
     ((iface : Iface) × (bytes : List ℕ) × (view : View) × (r : Route)
     × (d ≡ deed.Packet iface bytes) × (fields bytes ≡ Ok view) × (route config iface view ≡ Ok r) × (done ≡ sent live bytes (leg config live view r)))
-    ⊎ ((done.0.sessions ≡ live.sessions) × ((out : Iface) (packet : List ℕ) → done.1 ≢ Forward out packet))
+    ⊎ ((done.0.sessions ≡ live.sessions) × ((out : Iface) (packet : List ℕ) → done.1 ≢ Forward out packet) × (done.1 ≢ Dropped (cause_number Filtered)))
 
 module _ (config : Config) (live : State) (iface : Iface) (bytes : List ℕ) where
   route-told : (view : View) → fields bytes ≡ Ok view → (r : Result Route RouteFault) → route config iface view ≡ r → ComesTo config live (deed.Packet iface bytes) (on_route config live bytes view r)
-  route-told view fields_are (Err fault) route_is = inr (refl, λ out packet e. cc)
+  route-told view fields_are (Err f) route_is = inr (refl, (λ out packet e. cc), (λ e. let number : route_fault_number f ≡ 14 = cc in route-not f number))
   route-told view fields_are (Ok r) route_is = inl (iface, bytes, view, r, refl, fields_are, route_is, refl)
 
   fields-told : (f : Result View Fault) → fields bytes ≡ f → ComesTo config live (deed.Packet iface bytes) (with_fields config live iface bytes f)
-  fields-told (Err fault) fields_are = inr (refl, λ out packet e. cc)
+  fields-told (Err f) fields_are = inr (refl, (λ out packet e. cc), (λ e. let number : fault_number f ≡ 14 = cc in fault-not f number))
   fields-told (Ok view) fields_are = route-told view fields_are (route config iface view) refl
 
 pub act-told : (config : Config) (live : State) (d : Deed) → ComesTo config live d (act config live d)
 act-told config live (deed.Packet iface bytes) = fields-told config live iface bytes (fields bytes) refl
-act-told config live d = inr (refl, λ out packet e. cc)
+act-told config live d = inr (refl, (λ out packet e. cc), (λ e. cc))
 
 pub step-planned : (config : Config) (s : State) (judged : Judged) (out : Iface) (packet : List ℕ) → (step config s judged).1 ≡ Forward out packet
     → IsWay config (aged (later s.clock judged.moment) s) judged.deed out packet (step config s judged).0.sessions
