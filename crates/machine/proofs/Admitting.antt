@@ -1,8 +1,7 @@
 -- A mapping lets in whom it should.
-use Rattle.std.proofs.Common.{◌≡◌, ℕ, ◌<◌, true, false, List, length, is_some, None, Ok, Err, not, nat_lt, if◌then◌else◌, refl, sym, ap, ◌∙◌, subst, inl, inr, arith}
+use Rattle.std.proofs.Common.{◌≡◌, ◌≢◌, ℕ, true, false, List, is_some, None, Ok, Err, if◌then◌else◌, refl, sym, ap, ◌∙◌, subst, inl, inr}
 use Rattle.std.specs.Prelude.{find}
-use Rattle.std.specs.List.{filter}
-use Rattle.std.proofs.lemmas.Bool.{false_from_ne_true, le-ltb}
+use Rattle.std.proofs.lemmas.Bool.{false_from_ne_true}
 use Rattle.packet.specs.Config.{Config, is_config, is_inside}
 use Rattle.packet.specs.Translated.{translated}
 use Rattle.packet.specs.declared.bounds.Filtering.{Filtering}
@@ -14,19 +13,20 @@ use Rattle.packet.specs.declared.route.Route.TheVariants.{In as InRoute}
 use Rattle.packet.specs.declared.view.View.{View}
 use Rattle.sessions.specs.Laws.{IsMapping}
 use Rattle.sessions.specs.Life.{alive}
-use Rattle.sessions.specs.Listing.{clashes, has_outside, has_peer, put, same_flow}
+use Rattle.sessions.specs.Listing.{In, clashes, has_outside, has_peer}
 use Rattle.sessions.specs.Sound.{AreSound}
+use Rattle.sessions.specs.Table.{Clash as Clashing, HasInside, HasOutside}
 use Rattle.sessions.specs.declared.session.Opener.TheVariants.{Remote}
 use Rattle.sessions.specs.declared.session.Session.{Session}
 use Rattle.sessions.proofs.Found.{has_outside-true}
 use Rattle.sessions.proofs.PeerFinds.{has_peer-from}
-use Rattle.sessions.proofs.Puts.{find-none, find-some, length-insert}
+use Rattle.sessions.proofs.Puts.{find-none, find-some}
 use Rattle.verdict.specs.declared.facts.State.TheVariants.{New}
 use Rattle.hairpin.specs.Legs.{begun_in, by_mapping, counted, forwarded, in_by, inside_for, inward, lets_in, maps_outside, new_session, then_with, unless_dropped}
 use Rattle.hairpin.specs.declared.cause.Cause.TheVariants.{Clash, Filtered, NoSession, TableFull}
 use Rattle.hairpin.proofs.Apart.{agree, maps_outside-from, maps_outside-parts, outside_away}
 use Rattle.hairpin.proofs.Clashing.{none_clashes}
-use Rattle.hairpin.proofs.Soundness.{filter-most, filter-sound}
+use Rattle.hairpin.proofs.Soundness.{filter-sound}
 use Rattle.machine.specs.Judged.{Judged}
 use Rattle.machine.specs.Laws.{living}
 use Rattle.machine.specs.Machine.{State, sent, step}
@@ -34,7 +34,7 @@ use Rattle.machine.specs.Requirements.{ComesToMapping, LetsIn, MappingsLetIn}
 use Rattle.machine.specs.Sound.{IsSoundState}
 use Rattle.machine.specs.declared.event.Answer.TheVariants.{Forward}
 use Rattle.machine.proofs.Letting.{given-mapping}
-use Rattle.machine.proofs.Passing.{answer-of}
+use Rattle.machine.proofs.Passing.{answer-of, room-for}
 
 -- the test tells whom a mapping lets in
 pub lets-true : (by : Filtering) (sessions : List Session) (m : Session) (proto : Proto) (inside outside : Endpoint) (remote : ℕ) → m.proto ≡ proto → m.inside ≡ inside → m.outside ≡ outside → LetsIn by sessions proto inside outside remote
@@ -45,14 +45,17 @@ lets-true filtering.Address sessions m proto inside outside remote p i o lets =
     ap is_some (find-some (has_peer m.proto m.inside m.outside remote) sessions lets.0 lets.1
     (has_peer-from m.proto m.inside m.outside remote lets.0 (peer.0 ∙ sym p, peer.1 ∙ sym i, peer.2 ∙ sym o, peer.3))).1
 
--- one more session is not too many
-pub room-for : (t : Session) (sessions : List Session) → length sessions < 65536 → nat_lt 65536 (length (put t sessions)) ≡ false
-room-for t sessions few = le-ltb _ _ (omega (
-  arith,
-  few,
-  length-insert t (filter (λ v. not (same_flow t v)) sessions),
-  filter-most (λ v. not (same_flow t v)) sessions,
-))
+-- a session between the endpoints of a mapping clashes with none of another flow
+pub mapped-clash : (held : List Session) → ((u v : Session) → In u held → In v held → u ≢ v → ¬ Clashing u v) → (t : Session) → IsMapping held t.proto t.inside t.outside → (v : Session) → In v held
+    → ¬ HasInside t.proto t.inside t.remote v → ¬ HasOutside t.proto t.outside t.remote v → Clashing t v → ⊥
+mapped-clash held apart t mapping v in_v not_inside not_outside (inl own) = not_inside own
+mapped-clash held apart t mapping v in_v not_inside not_outside (inr (inl own)) = not_outside own
+mapped-clash held apart t mapping v in_v not_inside not_outside (inr (inr breaks)) =
+    let same = agree held apart v mapping.session in_v mapping.is_held breaks.1 mapping.translated (sym breaks.2 ∙ sym mapping.proto) in
+    elim breaks.3 [
+      | inl one ↦ one.1 (sym mapping.outside ∙ sym (same.0 (sym one.0 ∙ sym mapping.inside)))
+      | inr one ↦ one.1 (sym mapping.inside ∙ sym (same.1 (sym one.0 ∙ sym mapping.outside)))
+    ]
 
 module _ (config : Config) (s : State) (judged : Judged) (bytes : List ℕ) (view : View) (inside : Endpoint) (is_one : is_config config ≡ true) (sound : IsSoundState config s) (c : ComesToMapping config s judged bytes view inside) where
   abbrev live : State
@@ -97,18 +100,7 @@ module _ (config : Config) (s : State) (judged : Judged) (bytes : List ℕ) (vie
   t = new_session config s.rules held now view Remote inside view.dst view.src
 
   free : find (clashes t) held ≡ None
-  free = none_clashes t held (λ v in_v clash. elim clash [
-    | inl own ↦ c.apart v in_v own
-    | inr more ↦ elim more [
-      | inl own ↦ c.new v in_v own
-      | inr breaks ↦
-          let same = agree held all.apart v mapping.session in_v mapping.is_held breaks.1 mapping.translated (sym breaks.2 ∙ sym mapping.proto) in
-          elim breaks.3 [
-            | inl one ↦ one.1 (sym mapping.outside ∙ sym (same.0 (sym one.0 ∙ sym mapping.inside)))
-            | inr one ↦ one.1 (sym mapping.inside ∙ sym (same.1 (sym one.0 ∙ sym mapping.outside)))
-          ]
-    ]
-  ])
+  free = none_clashes t held (λ v in_v. mapped-clash held all.apart t mapping v in_v (c.apart v in_v) (c.new v in_v))
 
   pub admitted : (step config s judged).1 ≡ Forward Lan (translated bytes view.src inside)
   admitted =

@@ -19,14 +19,12 @@ use Rattle.ruletree.specs.declared.tree.Hook.TheVariants.{Prerouting, Postroutin
 use Rattle.ruletree.specs.declared.tree.Chain.{Chain}
 use Rattle.ruletree.specs.declared.tree.Table.{Table}
 use Rattle.ruletree.specs.declared.tree.Spelled.{Spelled}
-use Rattle.rulesyntax.specs.Text.{IsSpelledBy}
 use Rattle.rulesets.specs.Places.{is_not_external, is_not_inside, some_end_in}
-use Rattle.rulesets.specs.Faults.{MayRun}
 use Rattle.ruletext.specs.Texts.{Loads}
 use Rattle.ruletree.specs.declared.fault.Kind.TheVariants.{NotExternal, NotInside}
 use Rattle.verdict.specs.declared.facts.Facts.{Facts}
 use Rattle.verdict.specs.declared.chain.Outcome.{Outcome}
-use Rattle.verdict.specs.declared.chain.Outcome.TheVariants.{Accepts, Drops, To, From, Masquerades, Ends}
+use Rattle.verdict.specs.declared.chain.Outcome.TheVariants.{Accepts, Drops, To, From, Ends}
 use Rattle.verdict.specs.declared.hook.Destination.TheVariants as destinations
 use Rattle.verdict.specs.declared.hook.Source.TheVariants as sources
 use Rattle.hairpin.specs.KeepBounds.{KeepBounds}
@@ -49,29 +47,17 @@ Says facts P end = IfSome (translation facts end) P
 
 module _ (P : Outcome → Type 0) (accepts : P Accepts) (drops : P Drops) (ends_so : P Ends) where
   unless_has : (o : Outcome) → P o → IfSome (unless_ended o) P
-  unless_has Accepts has = has
-  unless_has Drops has = has
-  unless_has (To x) has = has
-  unless_has (From x) has = has
-  unless_has Masquerades has = has
   unless_has Ends has = tt
+  unless_has o has = has
 
   settled_has : (policy : Policy) (o : Outcome) → P o → P (settled policy o)
-  settled_has policy Accepts has = has
-  settled_has policy Drops has = has
-  settled_has policy (To x) has = has
-  settled_has policy (From x) has = has
-  settled_has policy Masquerades has = has
   settled_has policies.Accept Ends has = accepts
   settled_has policies.Drop Ends has = drops
+  settled_has policy o has = has
 
   handed_has : (o next : Outcome) → P o → P next → P (handed_on o next)
   handed_has Accepts next has later = later
-  handed_has Drops next has later = has
-  handed_has (To x) next has later = has
-  handed_has (From x) next has later = has
-  handed_has Masquerades next has later = has
-  handed_has Ends next has later = has
+  handed_has o next has later = has
 
   unwrapped_has : (o : Option Outcome) (next : Outcome) → IfSome o P → P next → P (unwrap_or o next)
   unwrapped_has None next has later = later
@@ -94,9 +80,7 @@ module _ (P : Outcome → Type 0) (accepts : P Accepts) (drops : P Drops) (ends_
       taken_has : (end : End) → Says facts P end → IfSome (taken config facts call end) P
       taken_has (ends.Verdict v) says = ending_has v
       taken_has (ends.Vmap vmap) says = mapped_has (mapped config facts vmap)
-      taken_has (ends.Dnat dnat) says = says
-      taken_has (ends.Snat snat) says = says
-      taken_has (ends.Masquerade line) says = says
+      taken_has end says = says
 
       end_has : (end : Option End) → OfEnd (Says facts P) end → IfSome (option_and_then (taken config facts call) end) P
       end_has None says = tt
@@ -116,10 +100,7 @@ module _ (P : Outcome → Type 0) (accepts : P Accepts) (drops : P Drops) (ends_
 
     named_has : (Q : End → Type 0) (chains : List Chain) (name : List ℕ) → OfChains Q chains → OfRules Q (rules_of chains name)
     named_has Q [] name says = tt
-    named_has Q (chain ∷ chains) name says = elim (cases_Bool (bytes_eq chain.name name)) [
-      | inl here ↦ rw here says.0
-      | inr there ↦ rw there (named_has Q chains name says.1)
-    ]
+    named_has Q (chain ∷ chains) name says = elim (cases_Bool (bytes_eq chain.name name)) [ inl here ↦ rw here says.0 | inr there ↦ rw there (named_has Q chains name says.1) ]
 
     called_has : (left : ℕ) (table : Table) → OfChains (Says facts P) table.chains → (name : List ℕ) → P (called left config facts table name)
     unfolding called
@@ -135,10 +116,7 @@ module _ (P : Outcome → Type 0) (accepts : P Accepts) (drops : P Drops) (ends_
     BaseSays base = OfChains (Says facts P) base.table.chains × OfRules (Says facts P) base.chain.rules
 
     at_hook_says : (hook : Hook) (table : Table) (chain : Chain) (base : Base) → OfChains (Says facts P) table.chains → OfRules (Says facts P) chain.rules → AllByRecursion BaseSays (at_hook hook table chain base)
-    at_hook_says hook table chain base says own = elim (cases_Bool (same_hook base.hook hook)) [
-      | inl here ↦ rw here ((says, own), tt)
-      | inr other ↦ rw other tt
-    ]
+    at_hook_says hook table chain base says own = elim (cases_Bool (same_hook base.hook hook)) [ inl here ↦ rw here ((says, own), tt) | inr other ↦ rw other tt ]
 
     base_says : (hook : Hook) (table : Table) (chain : Chain) (base : Option Base) → OfChains (Says facts P) table.chains → OfRules (Says facts P) chain.rules → AllByRecursion BaseSays (option_map_or (at_hook hook table chain) base [])
     base_says hook table chain None says own = tt
@@ -188,20 +166,22 @@ DestinationHas R (To endpoint) = R endpoint
 DestinationHas R _ = Unit {0}
 
 source_is : (R : ℕ → Type 0) (addr : ℕ) (o : Outcome) → SourceHas R o → source_by o ≡ sources.From addr → R addr
-source_is R addr Accepts has is = cc
-source_is R addr Drops has is = cc
-source_is R addr (To x) has is = cc
 source_is R addr (From x) has is = let e : x ≡ addr = cc in subst R e has
-source_is R addr Masquerades has is = cc
-source_is R addr Ends has is = cc
+source_is R addr o has is = cc
 
 destination_is : (R : Endpoint → Type 0) (endpoint : Endpoint) (o : Outcome) → DestinationHas R o → destination_by o ≡ destinations.To endpoint → R endpoint
-destination_is R endpoint Accepts has is = cc
-destination_is R endpoint Drops has is = cc
 destination_is R endpoint (To x) has is = let e : x ≡ endpoint = cc in subst R e has
-destination_is R endpoint (From x) has is = cc
-destination_is R endpoint Masquerades has is = cc
-destination_is R endpoint Ends has is = cc
+destination_is R endpoint o has is = cc
+
+-- what each translation of the text has, the one at the hook has
+module _ (config : Config) (facts : Facts) (text : Spelled) where
+  by_source : (R : ℕ → Type 0) → OfTables (Says facts (SourceHas R)) text.tables → (addr : ℕ) → postrouting_verdict config facts text ≡ sources.From addr → R addr
+  unfolding postrouting_verdict
+  by_source R says addr = source_is R addr (hook_outcome config facts Postrouting text) (hook_has (SourceHas R) tt tt tt config facts Postrouting text says)
+
+  by_destination : (R : Endpoint → Type 0) → OfTables (Says facts (DestinationHas R)) text.tables → (endpoint : Endpoint) → prerouting_verdict config facts text ≡ destinations.To endpoint → R endpoint
+  unfolding prerouting_verdict
+  by_destination R says endpoint = destination_is R endpoint (hook_outcome config facts Prerouting text) (hook_has (DestinationHas R) tt tt tt config facts Prerouting text says)
 
 -- ---- what is said where a kind of fault doesn't hold
 
@@ -243,58 +223,25 @@ not_not false never = absurd (never refl)
 module _ (config : Config) (facts : Facts) where
   says_external : (end : End) → ¬ (is_not_external config end ≡ true) → Says facts (SourceHas (λ addr. Contains config.external addr)) end
   unfolding translation
-  says_external (ends.Verdict v) never = tt
-  says_external (ends.Vmap vmap) never = tt
-  says_external (ends.Dnat dnat) never = tt
   says_external (ends.Snat snat) never = (listed-is config.external snat.address).0 (not_not (is_external config snat.address) never)
-  says_external (ends.Masquerade line) never = tt
+  says_external _ never = tt
 
   says_inside : (end : End) → ¬ (is_not_inside config end ≡ true) → Says facts (DestinationHas (λ endpoint. IsTrue (is_inside config endpoint.addr))) end
   unfolding translation
-  says_inside (ends.Verdict v) never = tt
-  says_inside (ends.Vmap vmap) never = tt
   says_inside (ends.Dnat dnat) never = not_not (is_inside config dnat.address) never
-  says_inside (ends.Snat snat) never = tt
-  says_inside (ends.Masquerade line) never = tt
-
-  -- of a text that may run, a source is translated to an external address
-  pub source_external : (text : Spelled) → MayRun config text → (addr : ℕ) → postrouting_verdict config facts text ≡ sources.From addr → Contains config.external addr
-  unfolding postrouting_verdict
-  source_external text may addr is =
-      let Fits = SourceHas (λ a. Contains config.external a) in
-      source_is (λ a. Contains config.external a) addr (hook_outcome config facts Postrouting text)
-      (hook_has Fits tt tt tt config facts Postrouting text (tables_spared (is_not_external config) (Says facts Fits) says_external text.tables (may NotExternal))) is
-
-  -- and a destination to an inside address
-  pub destination_inside : (text : Spelled) → MayRun config text → (endpoint : Endpoint) → prerouting_verdict config facts text ≡ destinations.To endpoint → IsTrue (is_inside config endpoint.addr)
-  unfolding prerouting_verdict
-  destination_inside text may endpoint is =
-      let Fits = DestinationHas (λ e. IsTrue (is_inside config e.addr)) in
-      destination_is (λ e. IsTrue (is_inside config e.addr)) endpoint (hook_outcome config facts Prerouting text)
-      (hook_has Fits tt tt tt config facts Prerouting text (tables_spared (is_not_inside config) (Says facts Fits) says_inside text.tables (may NotInside))) is
+  says_inside _ never = tt
 
   says_port : (end : End) → HasPort end → Says facts (DestinationHas (λ endpoint. 0 < facts.dst.port → 0 < endpoint.port)) end
   unfolding translation
-  says_port (ends.Verdict v) has = tt
-  says_port (ends.Vmap vmap) has = tt
   says_port (ends.Dnat dnat) has = given_or_kept dnat.port facts.dst.port has
-  says_port (ends.Snat snat) has = tt
-  says_port (ends.Masquerade line) has = tt
-
-  -- of a text that is spelled, a packet for a port that isn't 0 goes on to one that isn't
-  pub port_above_zero : (bytes : List ℕ) (text : Spelled) → IsSpelledBy text bytes → (endpoint : Endpoint) → prerouting_verdict config facts text ≡ destinations.To endpoint → 0 < facts.dst.port → 0 < endpoint.port
-  unfolding prerouting_verdict
-  port_above_zero bytes text spelled endpoint is =
-      let Fits = DestinationHas (λ e. 0 < facts.dst.port → 0 < e.port) in
-      destination_is (λ e. 0 < facts.dst.port → 0 < e.port) endpoint (hook_outcome config facts Prerouting text)
-      (hook_has Fits tt tt tt config facts Prerouting text (tables_weaken HasPort (Says facts Fits) says_port text.tables (ports_spelled bytes text spelled))) is
+  says_port _ has = tt
 
 -- the rules of a text that loads keep within the bounds
 pub bounds-kept : (config : Config) (text : List ℕ) (rules : Spelled) → Loads config text rules → KeepBounds config rules
 bounds-kept config text rules loads = record {
-  to = λ facts inside. destination_inside config facts rules loads.2 inside;
-  port = λ facts inside. port_above_zero config facts text rules loads.1 inside;
-  from = λ facts addr. source_external config facts rules loads.2 addr;
+  to = λ facts. by_destination config facts rules (λ e. IsTrue (is_inside config e.addr)) (tables_spared (is_not_inside config) _ (says_inside config facts) rules.tables (loads.2 NotInside));
+  port = λ facts. by_destination config facts rules (λ e. 0 < facts.dst.port → 0 < e.port) (tables_weaken HasPort _ (says_port config facts) rules.tables (ports_spelled text rules loads.1));
+  from = λ facts. by_source config facts rules (λ a. Contains config.external a) (tables_spared (is_not_external config) _ (says_external config facts) rules.tables (loads.2 NotExternal));
 }
 
 -- ---- rules that have no address for a host
@@ -302,32 +249,19 @@ bounds-kept config text rules loads = record {
 module _ (host : ℕ) (facts : Facts) where
   says_no_source : (end : End) → ¬ (is_of_rule host end ≡ true) → Says facts (SourceHas (λ addr. ⊥)) end
   unfolding translation
-  says_no_source (ends.Verdict v) never = tt
-  says_no_source (ends.Vmap vmap) never = tt
-  says_no_source (ends.Dnat dnat) never = tt
   says_no_source (ends.Snat snat) never = never refl
-  says_no_source (ends.Masquerade line) never = tt
+  says_no_source _ never = tt
 
   says_elsewhere : (end : End) → ¬ (is_of_rule host end ≡ true) → Says facts (DestinationHas (λ endpoint. endpoint.addr ≢ host)) end
   unfolding translation
-  says_elsewhere (ends.Verdict v) never = tt
-  says_elsewhere (ends.Vmap vmap) never = tt
   says_elsewhere (ends.Dnat dnat) never = λ same. never (eq-eqb dnat.address host same)
-  says_elsewhere (ends.Snat snat) never = tt
-  says_elsewhere (ends.Masquerade line) never = tt
+  says_elsewhere _ never = tt
 
 -- they leave the host to the pool
 pub left-to-pool : (config : Config) (rules : Spelled) (host : ℕ) → some_end_in (is_of_rule host) rules.tables ≡ false → LeaveToPool config rules host
-unfolding prerouting_verdict postrouting_verdict
 left-to-pool config rules host none =
     let never : ¬ (some_end_in (is_of_rule host) rules.tables ≡ true) = λ some. false≢true (sym none ∙ some) in
     record {
-      source = λ facts addr same is.
-          let Fits = SourceHas (λ a. ⊥) in
-          source_is (λ a. ⊥) addr (hook_outcome config facts Postrouting rules)
-          (hook_has Fits tt tt tt config facts Postrouting rules (tables_spared (is_of_rule host) (Says facts Fits) (says_no_source host facts) rules.tables never)) is;
-      destination = λ facts endpoint same is.
-          let Fits = DestinationHas (λ e. e.addr ≢ host) in
-          destination_is (λ e. e.addr ≢ host) endpoint (hook_outcome config facts Prerouting rules)
-          (hook_has Fits tt tt tt config facts Prerouting rules (tables_spared (is_of_rule host) (Says facts Fits) (says_elsewhere host facts) rules.tables never)) is same;
+      source = λ facts addr same. by_source config facts rules (λ a. ⊥) (tables_spared (is_of_rule host) _ (says_no_source host facts) rules.tables never) addr;
+      destination = λ facts endpoint same is. by_destination config facts rules (λ e. e.addr ≢ host) (tables_spared (is_of_rule host) _ (says_elsewhere host facts) rules.tables never) endpoint is same;
     }

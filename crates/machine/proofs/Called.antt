@@ -57,13 +57,13 @@ module _ (config : Config) (live : State) (view : View) where
 
   -- ---- what calls its source
 
-  unmapped : find (maps_inside view.proto view.src) sessions ≡ None → HasNoMapping live view
-  unmapped none other m =
+  pub not-mapped : find (maps_inside view.proto view.src) sessions ≡ None → HasNoMapping live view
+  not-mapped none other m =
       let found = find-some (maps_inside view.proto view.src) sessions m.session m.is_held (maps-from view.proto view.src m.session m.translated m.proto m.inside) in
       none-some found.0 (sym none ∙ found.1)
 
-  mapped : (m : Session) → find (maps_inside view.proto view.src) sessions ≡ Some m → (o : Endpoint) → m.outside ≡ o → IsMapping sessions view.proto view.src o
-  mapped m e o outside =
+  pub is-mapped : (m : Session) → find (maps_inside view.proto view.src) sessions ≡ Some m → (o : Endpoint) → m.outside ≡ o → IsMapping sessions view.proto view.src o
+  is-mapped m e o outside =
       let is = find-In (maps_inside view.proto view.src) sessions m e in
       let parts = maps-parts view.proto view.src m is.1 in
       record { session = m; is_held = is.0; translated = parts.0; proto = parts.1; inside = parts.2; outside = outside }
@@ -88,22 +88,16 @@ module _ (config : Config) (live : State) (view : View) where
       inr (inr (e, (choice_is_listed uses taken config.external view.src.port o (port-ok (pool_choice uses taken config.external view.src.port) o h)).0))
   called-rules source.Drop e o h = absurd (err-ok Rule o h)
 
-  called-by : (found : Option Session) → find (maps_inside view.proto view.src) sessions ≡ found → (o : Endpoint) → outside_for config live.rules sessions now view found ≡ Ok o → IsCalled config live view o
-  called-by (Some m) e o h = inl (mapped m e o (same_Ok m.outside o h))
-  called-by None e o h = inr (unmapped e, called-rules how refl o h)
+  pub called-by : (found : Option Session) → find (maps_inside view.proto view.src) sessions ≡ found → (o : Endpoint) → outside_for config live.rules sessions now view found ≡ Ok o → IsCalled config live view o
+  called-by (Some m) e o h = inl (is-mapped m e o (same_Ok m.outside o h))
+  called-by None e o h = inr (not-mapped e, called-rules how refl o h)
 
-  pub called : (o : Endpoint) → outside_for config live.rules sessions now view (find (maps_inside view.proto view.src) sessions) ≡ Ok o → IsCalled config live view o
-  called o h = called-by (find (maps_inside view.proto view.src) sessions) refl o h
-
-  near-by : Contains config.external view.dst.addr → (found : Option Session) → find (maps_inside view.proto view.src) sessions ≡ found → (o : Endpoint) → outside_near config live.rules sessions now view found ≡ Ok o → IsCalledNear config live view o
-  near-by at (Some m) e o h = inl (mapped m e o (same_Ok m.outside o h))
+  pub near-by : Contains config.external view.dst.addr → (found : Option Session) → find (maps_inside view.proto view.src) sessions ≡ found → (o : Endpoint) → outside_near config live.rules sessions now view found ≡ Ok o → IsCalledNear config live view o
+  near-by at (Some m) e o h = inl (is-mapped m e o (same_Ok m.outside o h))
   near-by at None e o h =
       let uses = uses_in sessions view.src.addr in
       let taken = is_taken sessions view.proto in
-      inr (unmapped e, near-listed uses taken config.external view.src.port view.dst.addr o at (port-ok (near_choice uses taken config.external view.dst.addr view.src.port) o h))
-
-  pub called-near : Contains config.external view.dst.addr → (o : Endpoint) → outside_near config live.rules sessions now view (find (maps_inside view.proto view.src) sessions) ≡ Ok o → IsCalledNear config live view o
-  called-near at o h = near-by at (find (maps_inside view.proto view.src) sessions) refl o h
+      inr (not-mapped e, near-listed uses taken config.external view.src.port view.dst.addr o at (port-ok (near_choice uses taken config.external view.dst.addr view.src.port) o h))
 
   -- ---- the state that it has by the session that takes it out
 
@@ -143,10 +137,7 @@ module _ (config : Config) (live : State) (view : View) where
   module _ (first : Session) (away : ¬ (first.outside ≡ view.dst)) where
     was-held : (u : Session) → In u (put first sessions) → u.outside ≡ view.dst → In u sessions
     was-held u is at = elim (put_all-member (first ∷ []) sessions u is) [
-      | inl among ↦ elim among [
-        | inl one ↦ absurd (away (sym (ap (λ (v : Session). v.outside) one) ∙ at))
-        | inr no_more ↦ absurd no_more
-      ]
+      | inl among ↦ elim among [ inl one ↦ absurd (away (sym (ap (λ (v : Session). v.outside) one) ∙ at)) | inr no_more ↦ absurd no_more ]
       | inr old ↦ old
     ]
 

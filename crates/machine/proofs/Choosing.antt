@@ -1,5 +1,5 @@
 -- At which outside endpoint a new session is.
-use Rattle.std.proofs.Common.{◌≡◌, ◌≢◌, ℕ, ◌<◌, ◌^◌, Bool, true, cond, List, [], ◌∷◌, ◌++◌, Contains, Option, Some, None, Ok, IfOk, IsTrue, refl, sym, ap, ◌∙◌, subst}
+use Rattle.std.proofs.Common.{◌≡◌, ◌≢◌, ◌⊎◌, ℕ, ◌<◌, ◌^◌, Bool, true, cond, List, [], ◌∷◌, ◌++◌, Contains, Option, Some, None, Ok, IfOk, IsTrue, refl, sym, ap, ◌∙◌, subst, inl, inr}
 use Rattle.std.specs.Prelude.{find}
 use Rattle.std.specs.List.{AllByRecursion}
 use Rattle.std.specs.Option.{option_map, unwrap_or}
@@ -21,13 +21,13 @@ use Rattle.verdict.specs.Hooks.{postrouting_verdict}
 use Rattle.verdict.specs.declared.facts.State.TheVariants.{New}
 use Rattle.verdict.specs.declared.hook.Source.{Source}
 use Rattle.verdict.specs.declared.hook.Source.TheVariants as source
-use Rattle.hairpin.specs.Legs.{facts_of, first_by, hairpin_leg, is_taken, maps_inside, needs_session, out_leg, outside_by_rules, outside_for, outside_near, uses_in}
-use Rattle.hairpin.specs.declared.cause.Cause.TheVariants.{NoSession, Rule}
+use Rattle.hairpin.specs.Legs.{Passage, facts_of, hairpin_leg, is_taken, maps_inside, out_leg, outside_by_rules, outside_for, outside_near, uses_in}
+use Rattle.hairpin.specs.declared.cause.Cause.TheVariants.{Rule}
 use Rattle.hairpin.proofs.Apart.{err-ok, find-In, mapped-some, maps-parts, port-ok, same_Ok, taken-by, taken-from}
 use Rattle.hairpin.specs.Paired.{IsAt}
 use Rattle.hairpin.proofs.Pairs.{hairpin, masquerade, uses-is}
 use Rattle.machine.specs.Hosts.{IsOccupied}
-use Rattle.machine.proofs.Ways.{hairpin-ways, out-ways, then-ok, unless-ok}
+use Rattle.machine.proofs.Passages.{FirstBegins, FirstGoesOn, hairpin-told, ok-by, out-ways}
 
 -- ---- among the ports of an address
 
@@ -99,24 +99,19 @@ module _ (config : Config) (rules : Spelled) (sessions : List Session) (now : �
   begins-out : (P : Endpoint → Type 0)
       → ((outside : Endpoint) → outside_for config rules sessions now view (find (maps_inside view.proto view.src) sessions) ≡ Ok outside → P outside)
       → IfOk (out_leg config rules sessions now view) (λ passage. P passage.src)
-  begins-out P begins = out-ways config rules sessions now view (λ passage. P passage.src)
-      (λ s e. absurd (none-some s (sym none ∙ e)))
-      (λ outside _ h. begins outside h)
-      (find (has_inside view.proto view.src view.dst) sessions) refl
+  begins-out P begins = out-ways config rules sessions now view (λ passage. P passage.src) (λ s e. absurd (none-some s (sym none ∙ e))) begins
 
   -- and of one that hairpins
   first-new : (P : Endpoint → Type 0) → ((outside : Endpoint) → outside_near config rules sessions now view (find (maps_inside view.proto view.src) sessions) ≡ Ok outside → P outside)
-      → (found : Option Session) → find (has_inside view.proto view.src view.dst) sessions ≡ found → (first : Session) → first_by config rules sessions now view found ≡ Ok first → P first.outside
-  first-new P begins (Some s) e first h = absurd (none-some s (sym none ∙ e))
-  first-new P begins None e first h =
-      let begun = unless-ok (needs_session view) NoSession _ first h in
-      let new = then-ok (outside_near config rules sessions now view (find (maps_inside view.proto view.src) sessions)) _ first begun.1 in
-      subst (λ (s : Session). P s.outside) (same_Ok _ first new.2) (begins new.0 new.1)
+      → (first : Session) → FirstGoesOn config rules sessions now view first ⊎ FirstBegins config rules sessions now view first → P first.outside
+  first-new P begins first (inl on) = absurd (none-some on.0 (sym none ∙ on.1))
+  first-new P begins first (inr begun) = subst (λ (s : Session). P s.outside) (sym begun.2.2) (begins begun.2.0 begun.2.1)
 
   begins-hairpin : (P : Endpoint → Type 0) → ((outside : Endpoint) → outside_near config rules sessions now view (find (maps_inside view.proto view.src) sessions) ≡ Ok outside → P outside)
       → IfOk (hairpin_leg config rules sessions now view) (λ passage. P passage.src)
-  begins-hairpin P begins = hairpin-ways config rules sessions now view (λ passage. P passage.src) (find (has_inside view.proto view.src view.dst) sessions)
-      (λ first t is other far. first-new P begins (find (has_inside view.proto view.src view.dst) sessions) refl first is)
+  begins-hairpin P begins = ok-by (λ (p : Passage). P p.src) (hairpin_leg config rules sessions now view) (λ p h.
+      let both = hairpin-told config rules sessions now view p h in
+      subst (λ (q : Passage). P q.src) (sym both.are) (first-new P begins both.first both.by_first))
 
   abbrev how : Source
   how = postrouting_verdict config (facts_of config rules sessions now view Lan (Some Wan) view.src view.dst New) rules

@@ -1,7 +1,6 @@
 -- How many bytes entries have.
 use Rattle.std.proofs.Common.{◌≡◌, ℕ, suc, ◌+◌, ◌<◌, ◌≤◌, Result, Ok, Err, OnOk, append_assoc, get_or, slice_index, take, List, [], ◌∷◌, ◌++◌, length, Option, Some, None, true, false, Bool, if◌then◌else◌, refl, sym, ap, ◌∙◌, arith}
 use Rattle.std.proofs.Math.Seq.{take-suc}
-use Rattle.sessions.specs.declared.session.Opener.{Opener}
 use Rattle.sessions.specs.declared.session.Session.{Session}
 use Rattle.sessions.specs.Listing.{put}
 use Rattle.sessions.specs.Stilled.{stilled}
@@ -10,18 +9,6 @@ use Rattle.durable.specs.declared.entry.Flow.{Flow}
 use Rattle.durable.specs.Coding.{Entry, Begin, End, Restart, Seen, Load, endpoint_bytes, entry_bytes, flow_bytes, session_bytes}
 use Rattle.machine.specs.Noted.{ends, sessions_at, with_it, goes_on, is_unchanged, entries_for, entries_for_all, entries_making}
 use Rattle.machine.specs.Sizes.{bytes_of}
-
-cost-begin : (s : Session) → length (entry_bytes (Begin s)) ≡ 22
-unfolding entry_bytes session_bytes endpoint_bytes
-cost-begin s = refl
-
-cost-seen : (f : Flow) (seen : ℕ) → length (entry_bytes (Seen f seen)) ≡ 15
-unfolding entry_bytes flow_bytes endpoint_bytes
-cost-seen f seen = refl
-
-cost-restart : (f : Flow) (opener : Opener) (seen : ℕ) → length (entry_bytes (Restart f opener seen)) ≡ 16
-unfolding entry_bytes flow_bytes endpoint_bytes
-cost-restart f opener seen = refl
 
 pub cost-end : (f : Flow) → length (entry_bytes (End f)) ≡ 14
 unfolding entry_bytes flow_bytes endpoint_bytes
@@ -32,12 +19,14 @@ unfolding entry_bytes
 cost-load text = omega arith
 
 between-few : (b c : Bool) (s t : Session) → bytes_of (if b then [] else (if c then Seen (flow_of t) t.seen ∷ [] else Restart (flow_of t) t.opener t.seen ∷ [])) ≤ 22
+unfolding entry_bytes flow_bytes endpoint_bytes
 between-few true c s t = omega arith
-between-few false true s t = let few = cost-seen (flow_of t) t.seen in omega (arith, few)
-between-few false false s t = let few = cost-restart (flow_of t) t.opener t.seen in omega (arith, few)
+between-few false true s t = let few : length (entry_bytes (Seen (flow_of t) t.seen)) ≡ 15 = refl in omega (arith, few)
+between-few false false s t = let few : length (entry_bytes (Restart (flow_of t) t.opener t.seen)) ≡ 16 = refl in omega (arith, few)
 
 pub noted-few : (o : Option Session) (t : Session) → bytes_of (entries_making o t) ≤ 22
-noted-few None t = let few = cost-begin (stilled t) in omega (arith, few)
+unfolding entry_bytes session_bytes endpoint_bytes
+noted-few None t = let few : length (entry_bytes (Begin (stilled t))) ≡ 22 = refl in omega (arith, few)
 noted-few (Some s) t = between-few (is_unchanged s t) (goes_on s t) s t
 
 pub bytes_of-append : (es fs : List Entry) → bytes_of (es ++ fs) ≡ bytes_of es + bytes_of fs

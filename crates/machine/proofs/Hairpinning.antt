@@ -1,9 +1,9 @@
 -- Hairpins come in.
-use Rattle.std.proofs.Common.{◌≡◌, ◌⊎◌, ℕ, ◌+◌, ◌<◌, ◌≤◌, true, false, List, length, Contains, Option, Some, None, is_some, Result, Ok, Err, not, nat_lt, if◌then◌else◌, refl, sym, ap, ◌∙◌, subst, inl, inr, arith}
+use Rattle.std.proofs.Common.{◌≡◌, ◌⊎◌, ℕ, ◌<◌, true, false, List, length, Contains, Option, Some, None, is_some, Result, Ok, Err, not, nat_lt, if◌then◌else◌, refl, sym, ap, ◌∙◌, subst, inl, inr, arith}
 use Rattle.std.specs.Prelude.{find}
 use Rattle.std.specs.List.{filter}
 use Rattle.std.specs.Option.{option_map, unwrap_or}
-use Rattle.std.proofs.lemmas.Bool.{false_from_ne_true, le-ltb}
+use Rattle.std.proofs.lemmas.Bool.{false_from_ne_true, le-ltb, not-true}
 use Rattle.packet.specs.Config.{Config, is_config}
 use Rattle.packet.specs.Translated.{translated}
 use Rattle.packet.specs.declared.bounds.Filtering.{Filtering}
@@ -25,17 +25,17 @@ use Rattle.sessions.specs.declared.session.Session.{Session}
 use Rattle.sessions.proofs.Clashing.{differ}
 use Rattle.sessions.proofs.Found.{has_outside-from, has_outside-true}
 use Rattle.sessions.proofs.Held.{SameKeys}
-use Rattle.sessions.proofs.Puts.{find-none, find-some, has_inside-from, has_inside-true, keys-from, length-insert}
+use Rattle.sessions.proofs.Puts.{find-none, find-some, has_inside-from, has_inside-true, keys-from}
 use Rattle.sessions.proofs.Sets.{In-filter, In-insert}
 use Rattle.verdict.specs.declared.facts.State.TheVariants.{New}
 use Rattle.hairpin.specs.Legs.{Passage, begun_second, by_mapping, connection_of, counted, forwarded, hairpin_by, inside_by_rules, inside_far, is_taken, maps_inside, maps_outside, new_session, or_no_port, outside_near, passed_by, second, second_by, then_with, through, unless_dropped, uses_in}
 use Rattle.hairpin.specs.declared.cause.Cause.{Cause}
 use Rattle.hairpin.specs.declared.cause.Cause.TheVariants.{Clash, Filtered, NoSession, SelfMapped, TableFull}
-use Rattle.hairpin.proofs.Apart.{agree, cases_endpoint, maps-from, maps-parts, maps_outside-from, maps_outside-parts, taken-by, taken-from, translated_at}
+use Rattle.hairpin.proofs.Apart.{agree, maps-from, maps-parts, maps_outside-from, maps_outside-parts, taken-by, taken-from, translated_at}
 use Rattle.hairpin.proofs.Choosing.{near-is}
 use Rattle.hairpin.proofs.Clashing.{none_clashes}
 use Rattle.hairpin.proofs.Doubling.{Rises-put, passed-flow, passed-keys}
-use Rattle.hairpin.proofs.Soundness.{filter-most, filter-sound, put-known}
+use Rattle.hairpin.proofs.Soundness.{filter-sound, put-known}
 use Rattle.machine.specs.Hairpins.{GoesByBoth, HairpinsComeIn, HairpinsToMapping}
 use Rattle.machine.specs.Hosts.{IsOccupied}
 use Rattle.machine.specs.Judged.{Judged}
@@ -45,27 +45,24 @@ use Rattle.machine.specs.Order.{IsNear, IsSource}
 use Rattle.machine.specs.Requirements.{HasNoMapping, LetsIn}
 use Rattle.machine.specs.Sound.{IsSoundState}
 use Rattle.machine.specs.declared.event.Answer.TheVariants.{Forward}
-use Rattle.machine.proofs.Admitting.{lets-true}
+use Rattle.machine.proofs.Admitting.{lets-true, mapped-clash}
 use Rattle.machine.proofs.Looked.{none-of, of-first}
-use Rattle.machine.proofs.Passing.{answer-of, one-of-flow}
+use Rattle.machine.proofs.Passing.{answer-of, one-of-flow, one-outside, put-most}
 use Rattle.machine.proofs.Reading.{ports_are_some}
 use Rattle.machine.proofs.Refreshing.{flows-differ, put-stays}
 
--- one of a set with one more is that one, or one of the set
-one-of : (t : Session) (sessions : List Session) (u : Session) → In u (put t sessions) → (u ≡ t) ⊎ In u sessions
-one-of t sessions u is = elim (In-insert t (filter (λ v. not (same_flow t v)) sessions) u is) [
+-- one of a set with one more is that one, or one of another flow
+pub put-of : (t : Session) (sessions : List Session) (u : Session) → In u (put t sessions) → (u ≡ t) ⊎ (In u sessions × (same_flow t u ≡ false))
+put-of t sessions u is = elim (In-insert t (filter (λ v. not (same_flow t v)) sessions) u is) [
   | inl e ↦ inl e
-  | inr old ↦ inr (In-filter (λ v. not (same_flow t v)) sessions u old).0
+  | inr old ↦ let kept = In-filter (λ v. not (same_flow t v)) sessions u old in inr (kept.0, not-true _ kept.1)
 ]
 
-put-most : (t : Session) (sessions : List Session) → length (put t sessions) ≤ length sessions + 1
-put-most t sessions = omega (
-  arith,
-  length-insert t (filter (λ v. not (same_flow t v)) sessions),
-  filter-most (λ v. not (same_flow t v)) sessions,
-)
-
 -- ---- the outside endpoint of the sender
+
+pub near-addr : (config : Config) (live : State) (view : View) (addr : ℕ) → IsNear config live view addr → addr ≡ unwrap_or (find (uses_in live.sessions view.src.addr) config.external) view.dst.addr
+near-addr config live view addr (inl first) = sym (ap (λ o. unwrap_or o view.dst.addr) (of-first live.sessions view.src.addr config.external addr first))
+near-addr config live view addr (inr nowhere) = nowhere.1 ∙ sym (ap (λ o. unwrap_or o view.dst.addr) (none-of live.sessions view.src.addr config.external nowhere.0))
 
 module _ (config : Config) (live : State) (view : View) (all : AreSound config live.sessions) (some : 0 < view.src.port) (fits : view.src.port < 65536) where
   abbrev sessions : List Session
@@ -85,10 +82,6 @@ module _ (config : Config) (live : State) (view : View) (all : AreSound config l
       let same = agree sessions all.apart t m.session found.2 m.is_held parts.0 m.translated (parts.1 ∙ sym m.proto) in
       ap near found.1 ∙ ap Ok (same.0 (parts.2 ∙ sym m.inside) ∙ m.outside)
 
-  near-addr : (addr : ℕ) → IsNear config live view addr → addr ≡ unwrap_or (find (uses_in sessions view.src.addr) config.external) view.dst.addr
-  near-addr addr (inl first) = sym (ap (λ o. unwrap_or o view.dst.addr) (of-first sessions view.src.addr config.external addr first))
-  near-addr addr (inr nowhere) = nowhere.1 ∙ sym (ap (λ o. unwrap_or o view.dst.addr) (none-of sessions view.src.addr config.external nowhere.0))
-
   nearest-port : (source : Endpoint) → IsNearest (IsOccupied sessions view.proto source.addr) view.src.port source.port → port_choice (is_taken sessions view.proto source.addr) view.src.port ≡ Some source.port
   nearest-port source nearest = ((determined (is_taken sessions view.proto source.addr) view.src.port some fits).some source.port).1 (record {
     steps = nearest.steps;
@@ -105,7 +98,7 @@ module _ (config : Config) (live : State) (view : View) (all : AreSound config l
       let taken = is_taken sessions view.proto in
       let uses = uses_in sessions view.src.addr in
       ap near none
-      ∙ ap or_no_port (near-is uses taken config.external view.src.port view.dst.addr ∙ ap (port_at taken view.src.port) (sym (near-addr source.addr is_near)) ∙ ap (option_map (endpoint source.addr)) (nearest-port source nearest))
+      ∙ ap or_no_port (near-is uses taken config.external view.src.port view.dst.addr ∙ ap (port_at taken view.src.port) (sym (near-addr config live view source.addr is_near)) ∙ ap (option_map (endpoint source.addr)) (nearest-port source nearest))
 
   pub source-near : (source : Endpoint) → IsSource config live view source → near found_map ≡ Ok source
   source-near source (inl m) = mapped-near source m
@@ -164,10 +157,7 @@ module _ (config : Config) (s : State) (judged : Judged) (bytes : List ℕ) (vie
   none_far : find (has_outside view.proto view.dst source) with_first ≡ None
   none_far = find-none (has_outside view.proto view.dst source) with_first (λ u in_u passes.
       let own = has_outside-true view.proto view.dst source u passes in
-      elim (one-of first held u in_u) [
-        | inl e ↦ c.away (subst (λ (v : Session). v.outside ≡ view.dst) e own.1)
-        | inr old ↦ new_far u old own
-      ])
+      elim (put-of first held u in_u) [ inl e ↦ c.away (subst (λ (v : Session). v.outside ≡ view.dst) e own.1) | inr old ↦ new_far u old.0 own ])
 
   let-in : (by : Filtering) → LetsIn by held view.proto inside view.dst source.addr → LetsIn by with_first view.proto inside view.dst source.addr
   let-in filtering.Endpoint lets = tt
@@ -179,9 +169,9 @@ module _ (config : Config) (s : State) (judged : Judged) (bytes : List ℕ) (vie
       (maps_outside-from view.proto view.dst mapping.session mapping.translated mapping.proto mapping.outside) in
       let m = found.0 in
       let parts = maps_outside-parts view.proto view.dst m found.3 in
-      let inside_is : m.inside ≡ inside = elim (one-of first held m found.2) [
+      let inside_is : m.inside ≡ inside = elim (put-of first held m found.2) [
         | inl e ↦ absurd (c.away (subst (λ (v : Session). v.outside ≡ view.dst) e parts.2))
-        | inr old ↦ (agree held all.apart m mapping.session old mapping.is_held parts.0 mapping.translated (parts.1 ∙ sym mapping.proto)).1 (parts.2 ∙ sym mapping.outside) ∙ mapping.inside
+        | inr old ↦ (agree held all.apart m mapping.session old.0 mapping.is_held parts.0 mapping.translated (parts.1 ∙ sym mapping.proto)).1 (parts.2 ∙ sym mapping.outside) ∙ mapping.inside
       ] in
       let lets = lets-true config.filtering with_first m view.proto inside view.dst source.addr parts.1 inside_is parts.2 (let-in config.filtering c.let_in) in
       ap (inside_by_rules config s.rules held now view with_first source.addr (find (maps_outside view.proto view.dst) with_first)) c.alone
@@ -198,29 +188,12 @@ module _ (config : Config) (s : State) (judged : Judged) (bytes : List ℕ) (vie
   not-own e (inr chosen) = chosen.0 view.dst (subst (λ x. IsMapping held view.proto x view.dst) e mapping)
 
   free : find (clashes t) with_first ≡ None
-  free = none_clashes t with_first (λ v in_v clash. elim (one-of first held v in_v) [
+  free = none_clashes t with_first (λ v in_v clash. elim (put-of first held v in_v) [
     | inl e ↦ elim (subst (Clashing t) e clash) [
       | inl own ↦ c.away (sym own.2)
-      | inr more ↦ elim more [
-        | inl own ↦ c.away own.1
-        | inr breaks ↦ elim breaks.3 [
-          | inl one ↦ not-own one.0 c.from
-          | inr one ↦ c.away (sym one.0)
-        ]
-      ]
+      | inr more ↦ elim more [ inl own ↦ c.away own.1 | inr breaks ↦ elim breaks.3 [ inl one ↦ not-own one.0 c.from | inr one ↦ c.away (sym one.0) ] ]
     ]
-    | inr old ↦ elim clash [
-      | inl own ↦ c.apart v old own
-      | inr more ↦ elim more [
-        | inl own ↦ new_far v old own
-        | inr breaks ↦
-            let same = agree held all.apart v mapping.session old mapping.is_held breaks.1 mapping.translated (sym breaks.2 ∙ sym mapping.proto) in
-            elim breaks.3 [
-              | inl one ↦ one.1 (sym mapping.outside ∙ sym (same.0 (sym one.0 ∙ sym mapping.inside)))
-              | inr one ↦ one.1 (sym mapping.inside ∙ sym (same.1 (sym one.0 ∙ sym mapping.outside)))
-            ]
-      ]
-    ]
+    | inr old ↦ mapped-clash held all.apart t mapping v old.0 (c.apart v old.0) (new_far v old.0) clash
   ])
 
   room : nat_lt 65536 (length (put t with_first)) ≡ false
@@ -289,12 +262,9 @@ module _ (config : Config) (s : State) (judged : Judged) (bytes : List ℕ) (vie
       let found = find-some (has_outside view.proto view.dst out.outside) (put out held') far far-beside (has_outside-from view.proto view.dst out.outside far has_far) in
       let u = found.0 in
       let has = has_outside-true view.proto view.dst out.outside u found.3 in
-      let same : u ≡ far = elim (one-of out held' u found.2) [
+      let same : u ≡ far = elim (put-of out held' u found.2) [
         | inl e ↦ absurd (c.away (out-keys.outside ∙ sym (ap (λ (v : Session). v.outside) e) ∙ has.1))
-        | inr old ↦ elim (cases_endpoint u.inside far.inside) [
-          | inl e ↦ one-of-flow held' all'.rises u far old c.far_held (keys-from far u (has.0 ∙ sym has_far.0, e, has.2 ∙ sym has_far.2))
-          | inr ne ↦ absurd (all'.apart u far old c.far_held (λ e. ne (ap (λ (v : Session). v.inside) e)) (inr (inl (has_far.0 ∙ sym has.0, has_far.1 ∙ sym has.1, has_far.2 ∙ sym has.2))))
-        ]
+        | inr old ↦ one-outside held' all'.rises all'.apart view.proto view.dst out.outside u far old.0 c.far_held has has_far
       ] in
       found.1 ∙ ap Some same
 
@@ -322,7 +292,4 @@ module _ (config : Config) (s : State) (judged : Judged) (bytes : List ℕ) (vie
       ∙ ap (λ x. Forward Lan (translated bytes first.outside x)) (sym back-keys.inside)
 
 pub hairpins-come-in : HairpinsComeIn
-hairpins-come-in = record {
-  begins = λ config s judged bytes view source inside is_one sound comes. begun config s judged bytes view source inside is_one sound comes;
-  goes_on = λ config s judged bytes view first far sound comes. gone-on config s judged bytes view first far sound comes;
-}
+hairpins-come-in = record { begins = begun; goes_on = gone-on }

@@ -1,5 +1,5 @@
 -- A host stays at its external address over the leg of a packet.
-use Rattle.std.proofs.Common.{◌≡◌, ℕ, List, Contains, Option, Some, None, Ok, IfOk, Bool, true, false, if◌then◌else◌, refl, sym, ap, ◌∙◌, subst}
+use Rattle.std.proofs.Common.{◌≡◌, ◌⊎◌, ℕ, List, Contains, Option, Some, None, Ok, IfOk, Bool, true, false, if◌then◌else◌, refl, sym, ap, ◌∙◌, subst, inl, inr}
 use Rattle.std.specs.Prelude.{find}
 use Rattle.packet.specs.Config.{Config, is_inside}
 use Rattle.packet.specs.declared.endpoint.Endpoint.{Endpoint}
@@ -18,14 +18,14 @@ use Rattle.verdict.specs.declared.hook.Destination.{Destination}
 use Rattle.verdict.specs.declared.hook.Destination.TheVariants as destination
 use Rattle.verdict.specs.declared.hook.Source.{Source}
 use Rattle.verdict.specs.declared.hook.Source.TheVariants as source
-use Rattle.hairpin.specs.Legs.{Passage, facts_of, first_by, hairpin_leg, in_leg, inside_by_rules, inside_far, is_taken, maps_inside, maps_outside, needs_session, new_session, out_leg, outside_by_rules, outside_for, outside_near, passed_by, put_all, second_by, uses_in}
-use Rattle.hairpin.specs.declared.cause.Cause.TheVariants.{Clash, NoSession, Rule}
+use Rattle.hairpin.specs.Legs.{Passage, facts_of, hairpin_leg, in_leg, inside_by_rules, is_taken, maps_inside, maps_outside, new_session, out_leg, outside_by_rules, outside_for, outside_near, passed_by, put_all, uses_in}
+use Rattle.hairpin.specs.declared.cause.Cause.TheVariants.{Rule}
 use Rattle.hairpin.proofs.Apart.{err-ok, find-In, maps-parts, maps_outside-parts, port-ok, same_Ok, some-mapping}
 use Rattle.hairpin.proofs.Doubling.{passed-keys}
 use Rattle.hairpin.specs.Paired.{IsAt, IsAtOne, Translates}
 use Rattle.hairpin.proofs.Pairs.{hairpin, masquerade, put_in}
 use Rattle.machine.specs.Hosts.{LeaveToPool}
-use Rattle.machine.proofs.Ways.{hairpin-ways, in-ways, out-ways, then-ok, unless-ok}
+use Rattle.machine.proofs.Passages.{FirstBegins, FirstGoesOn, SecondBegins, SecondGoesOn, hairpin-told, in-ways, ok-by, out-ways}
 
 -- ---- a session that is put in
 
@@ -47,10 +47,6 @@ fits-passed host sessions s sender view now one in_s =
 -- ---- what a leg puts in
 
 module _ (config : Config) (rules : Spelled) (now : ℕ) (view : View) (host : ℕ) (free : LeaveToPool config rules host) where
-  -- a session that is not translated fits
-  fits-plain : (sessions : List Session) (opener : Opener) (inside outside remote : Endpoint) → inside ≡ outside → Fits host sessions (new_session config rules sessions now view opener inside outside remote)
-  fits-plain sessions opener inside outside remote same = λ away. absurd (away.0 same)
-
   -- what the inside endpoint of a mapping that is held is, or of a rule, fits
   fits-rules : (sessions : List Session) → IsAtOne sessions host → (facts : Facts) (opener : Opener) (inside remote : Endpoint) (from : ℕ) (d : Destination) → prerouting_verdict config facts rules ≡ d
       → inside_by_rules config rules sessions now view sessions from (find (maps_outside view.proto view.dst) sessions) d ≡ Ok inside
@@ -77,19 +73,20 @@ module _ (config : Config) (rules : Spelled) (now : ℕ) (view : View) (host : �
       abbrev Chosen : Endpoint → Type 0
       Chosen outside = Fits host sessions (new_session config rules sessions now view Inside view.src outside view.dst)
 
+      -- an endpoint at the address of a host that has one
+      fits-at : (outside : Endpoint) → ((addr : ℕ) → IsAt sessions view.src.addr addr → Contains config.external addr → IsAt sessions view.src.addr outside.addr) → Chosen outside
+      fits-at outside there = λ away addr at.
+          one addr outside.addr at (subst (λ a. IsAt sessions a outside.addr) away.1 (there addr (subst (λ a. IsAt sessions a addr) (sym away.1) at) (listed addr at)))
+
       -- ---- out
 
       fits-source : (how : Source) → postrouting_verdict config (facts_of config rules sessions now view Lan (Some Wan) view.src view.dst New) rules ≡ how
           → (outside : Endpoint) → outside_by_rules config rules sessions now view how ≡ Ok outside → Chosen outside
-      fits-source source.None e outside h = fits-plain sessions Inside view.src outside view.dst (same_Ok view.src outside h)
-      fits-source (source.From addr) e outside h =
-          λ away. absurd (free.source (facts_of config rules sessions now view Lan (Some Wan) view.src view.dst New) addr away.1 e)
-      fits-source source.Masquerade e outside h = λ away addr at.
+      fits-source source.None e outside h = λ away. absurd (away.0 (same_Ok view.src outside h))
+      fits-source (source.From addr) e outside h = λ away. absurd (free.source (facts_of config rules sessions now view Lan (Some Wan) view.src view.dst New) addr away.1 e)
+      fits-source source.Masquerade e outside h = fits-at outside (λ addr at is_listed.
           let taken = is_taken sessions view.proto in
-          let choice = port-ok (pool_choice (uses_in sessions view.src.addr) taken config.external view.src.port) outside h in
-          one addr outside.addr at
-          (subst (λ a. IsAt sessions a outside.addr) away.1
-          (masquerade config.external sessions taken view.src.addr view.src.port addr outside (subst (λ a. IsAt sessions a addr) (sym away.1) at) (listed addr at) choice))
+          masquerade config.external sessions taken view.src.addr view.src.port addr outside at is_listed (port-ok (pool_choice (uses_in sessions view.src.addr) taken config.external view.src.port) outside h))
       fits-source source.Drop e outside h = absurd (err-ok Rule outside h)
 
       fits-out : (found : Option Session) → find (maps_inside view.proto view.src) sessions ≡ found → (outside : Endpoint) → outside_for config rules sessions now view found ≡ Ok outside → Chosen outside
@@ -103,9 +100,7 @@ module _ (config : Config) (rules : Spelled) (now : ℕ) (view : View) (host : �
       out-keeps = out-ways config rules sessions now view Keeps
           (λ s e. put_in host (passed_by s Inside view.flags now) sessions one
           (fits-passed host sessions s Inside view now one (find-In (has_inside view.proto view.src view.dst) sessions s e).0))
-          (λ outside none h. put_in host (new_session config rules sessions now view Inside view.src outside view.dst) sessions one
-          (fits-out (find (maps_inside view.proto view.src) sessions) refl outside h))
-          (find (has_inside view.proto view.src view.dst) sessions) refl
+          (λ outside h. put_in host (new_session config rules sessions now view Inside view.src outside view.dst) sessions one (fits-out (find (maps_inside view.proto view.src) sessions) refl outside h))
 
       -- ---- in
 
@@ -113,7 +108,7 @@ module _ (config : Config) (rules : Spelled) (now : ℕ) (view : View) (host : �
           → (if b then Ok view.dst else inside_by_rules config rules sessions now view sessions view.src.addr (find (maps_outside view.proto view.dst) sessions)
           (prerouting_verdict config (facts_of config rules sessions now view Wan None view.src view.dst New) rules)) ≡ Ok inside
           → Fits host sessions (new_session config rules sessions now view Remote inside view.dst view.src)
-      fits-in true inside h = fits-plain sessions Remote inside view.dst view.src (sym (same_Ok view.dst inside h))
+      fits-in true inside h = λ away. absurd (away.0 (sym (same_Ok view.dst inside h)))
       fits-in false inside h =
           let facts = facts_of config rules sessions now view Wan None view.src view.dst New in
           fits-rules sessions one facts Remote inside view.src view.src.addr (prerouting_verdict config facts rules) refl h
@@ -122,51 +117,35 @@ module _ (config : Config) (rules : Spelled) (now : ℕ) (view : View) (host : �
       in-keeps = in-ways config rules sessions now view Keeps
           (λ s e. put_in host (passed_by s Remote view.flags now) sessions one
           (fits-passed host sessions s Remote view now one (find-In (has_outside view.proto view.dst view.src) sessions s e).0))
-          (λ inside none h. put_in host (new_session config rules sessions now view Remote inside view.dst view.src) sessions one
-          (fits-in (is_inside config view.dst.addr) inside h))
-          (find (has_outside view.proto view.dst view.src) sessions) refl
+          (λ inside h. put_in host (new_session config rules sessions now view Remote inside view.dst view.src) sessions one (fits-in (is_inside config view.dst.addr) inside h))
 
       -- ---- hairpin
 
       fits-near : (found : Option Session) → find (maps_inside view.proto view.src) sessions ≡ found → (outside : Endpoint) → outside_near config rules sessions now view found ≡ Ok outside → Chosen outside
       fits-near (Some m) e outside h = fits-mapped m outside view.dst e (same_Ok m.outside outside h)
-      fits-near None e outside h = λ away addr at.
+      fits-near None e outside h = fits-at outside (λ addr at is_listed.
           let taken = is_taken sessions view.proto in
-          let choice = port-ok (near_choice (uses_in sessions view.src.addr) taken config.external view.dst.addr view.src.port) outside h in
-          one addr outside.addr at
-          (subst (λ a. IsAt sessions a outside.addr) away.1
-          (hairpin config.external sessions taken view.src.addr view.dst.addr view.src.port addr outside (subst (λ a. IsAt sessions a addr) (sym away.1) at) (listed addr at) choice))
+          hairpin config.external sessions taken view.src.addr view.dst.addr view.src.port addr outside at is_listed (port-ok (near_choice (uses_in sessions view.src.addr) taken config.external view.dst.addr view.src.port) outside h))
 
-      fits-first : (found : Option Session) → find (has_inside view.proto view.src view.dst) sessions ≡ found → (first : Session) → first_by config rules sessions now view found ≡ Ok first → Fits host sessions first
-      fits-first (Some s) e first h =
-          subst (Fits host sessions) (same_Ok (passed_by s Inside view.flags now) first h)
-          (fits-passed host sessions s Inside view now one (find-In (has_inside view.proto view.src view.dst) sessions s e).0)
-      fits-first None e first h =
-          let begun = unless-ok (needs_session view) NoSession _ first h in
-          let new = then-ok (outside_near config rules sessions now view (find (maps_inside view.proto view.src) sessions)) _ first begun.1 in
-          subst (Fits host sessions) (same_Ok _ first new.2) (fits-near (find (maps_inside view.proto view.src) sessions) refl new.0 new.1)
+      fits-first : (first : Session) → FirstGoesOn config rules sessions now view first ⊎ FirstBegins config rules sessions now view first → Fits host sessions first
+      fits-first first (inl on) = subst (Fits host sessions) (sym on.2) (fits-passed host sessions on.0 Inside view now one (find-In (has_inside view.proto view.src view.dst) sessions on.0 on.1).0)
+      fits-first first (inr begun) = subst (Fits host sessions) (sym begun.2.2) (fits-near (find (maps_inside view.proto view.src) sessions) refl begun.2.0 begun.2.1)
 
   -- the second session, where the first one is put in
   module _ (sessions : List Session) (first : Session) (one : IsAtOne (put first sessions) host) where
     abbrev held : List Session
     held = put first sessions
 
-    fits-second : (found : Option Session) → find (has_outside view.proto view.dst first.outside) held ≡ found → (t : Session) → second_by config rules sessions now view first held found ≡ Ok t → Fits host held t
-    fits-second (Some s) e t h =
-        subst (Fits host held) (same_Ok (passed_by s Remote view.flags now) t h)
-        (fits-passed host held s Remote view now one (find-In (has_outside view.proto view.dst first.outside) held s e).0)
-    fits-second None e t h =
+    fits-second : (t : Session) → SecondGoesOn config rules sessions now view first held t ⊎ SecondBegins config rules sessions now view first held t → Fits host held t
+    fits-second t (inl on) = subst (Fits host held) (sym on.2) (fits-passed host held on.0 Remote view now one (find-In (has_outside view.proto view.dst first.outside) held on.0 on.1).0)
+    fits-second t (inr begun) =
         let facts = facts_of config rules sessions now view Lan None view.src view.dst New in
-        let begun = unless-ok (needs_session view) NoSession _ t h in
-        let new = then-ok (inside_far config rules sessions now view first held) _ t begun.1 in
-        let free_of_clash = unless-ok _ Clash (Ok (new_session config rules sessions now view Remote new.0 view.dst first.outside)) t new.2 in
-        subst (Fits host held) (same_Ok _ t free_of_clash.1)
-        (fits-rules held one facts Remote new.0 first.outside first.outside.addr (prerouting_verdict config facts rules) refl new.1)
+        subst (Fits host held) (sym begun.2.3) (fits-rules held one facts Remote begun.2.0 first.outside first.outside.addr (prerouting_verdict config facts rules) refl begun.2.1)
 
   pub hairpin-keeps : (sessions : List Session) → IsAtOne sessions host → ((addr : ℕ) → IsAt sessions host addr → Contains config.external addr)
       → IfOk (hairpin_leg config rules sessions now view) (λ passage. IsAtOne (put_all passage.sessions sessions) host)
-  hairpin-keeps sessions one listed = hairpin-ways config rules sessions now view (λ passage. IsAtOne (put_all passage.sessions sessions) host) (find (has_inside view.proto view.src view.dst) sessions)
-      (λ first t is other far.
-      let with_first = put_in host first sessions one (fits-first sessions one listed (find (has_inside view.proto view.src view.dst) sessions) refl first is) in
-      put_in host t (put first sessions) with_first
-      (fits-second sessions first with_first (find (has_outside view.proto view.dst first.outside) (put first sessions)) refl t far))
+  hairpin-keeps sessions one listed = ok-by (λ (p : Passage). IsAtOne (put_all p.sessions sessions) host) (hairpin_leg config rules sessions now view) (λ p h.
+      let both = hairpin-told config rules sessions now view p h in
+      let with_first = put_in host both.first sessions one (fits-first sessions one listed both.first both.by_first) in
+      subst (λ (q : Passage). IsAtOne (put_all q.sessions sessions) host) (sym both.are)
+      (put_in host both.far (put both.first sessions) with_first (fits-second sessions both.first with_first both.far both.by_far)))

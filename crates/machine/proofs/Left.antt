@@ -1,5 +1,5 @@
 -- What a step of a packet leaves, where its leg lets it pass.
-use Rattle.std.proofs.Common.{◌≡◌, ℕ, List, Result, Ok, Err, refl, sym, ap, ◌∙◌}
+use Rattle.std.proofs.Common.{◌≡◌, ℕ, List, Result, Ok, Err, refl, sym, ap, ◌∙◌, subst}
 use Rattle.packet.specs.Config.{Config}
 use Rattle.packet.specs.Translated.{translated}
 use Rattle.packet.specs.declared.endpoint.Iface.{Iface}
@@ -33,21 +33,13 @@ pub record IsPassed (live : State) (way : Result Passage Cause) (bytes : List �
   pub packet_is : packet ≡ translated bytes passage.src passage.dst
   pub after_is : after ≡ left live passage
 
-sent-passed : (live : State) (way : Result Passage Cause) (bytes : List ℕ) (out : Iface) (packet : List ℕ) → (sent live bytes way).1 ≡ Forward out packet → IsPassed live way bytes out packet (sent live bytes way).0
+pub sent-passed : (live : State) (way : Result Passage Cause) (bytes : List ℕ) (out : Iface) (packet : List ℕ) → (sent live bytes way).1 ≡ Forward out packet → IsPassed live way bytes out packet (sent live bytes way).0
 sent-passed live (Err cause) bytes out packet e = absurd cc
 sent-passed live (Ok passage) bytes out packet e = record { passage = passage; passes = refl; out_is = cc; packet_is = cc; after_is = refl }
 
 module _ (config : Config) (s : State) (judged : Judged) (iface : Iface) (bytes : List ℕ) (view : View) (r : Route) (out : Iface) (packet : List ℕ) (came : Came config judged iface bytes view r) where
   pub step-passed : (step config s judged).1 ≡ Forward out packet → IsPassed (living s judged) (leg config (living s judged) view r) bytes out packet (step config s judged).0
-  step-passed e =
-      let live = living s judged in
-      let way = leg config live view r in
-      let is = step-of config s judged iface bytes view r came in
-      let passed = sent-passed live way bytes out packet (ap (λ (p : State × Answer). p.1) (sym is) ∙ e) in
-      record {
-        passage = passed.passage;
-        passes = passed.passes;
-        out_is = passed.out_is;
-        packet_is = passed.packet_is;
-        after_is = ap (λ (p : State × Answer). p.0) is ∙ passed.after_is;
-      }
+  step-passed =
+      let way = leg config (living s judged) view r in
+      subst (λ (done : State × Answer). done.1 ≡ Forward out packet → IsPassed (living s judged) way bytes out packet done.0)
+      (sym (step-of config s judged iface bytes view r came)) (sent-passed (living s judged) way bytes out packet)

@@ -31,7 +31,7 @@ use Rattle.hairpin.specs.declared.cause.Cause.{Cause}
 use Rattle.hairpin.specs.declared.cause.Cause.TheVariants.{Clash, Filtered, NoMapping, NoPort, NoSession, Rule, SelfMapped, TableFull}
 use Rattle.hairpin.proofs.Apart.{agree, err-ok, find-In, maps_outside-parts, same_Ok}
 use Rattle.hairpin.proofs.Pairs.{found-in}
-use Rattle.machine.proofs.Ways.{in-ways}
+use Rattle.machine.proofs.Passages.{in-ways}
 
 -- ---- where a mapping lets in
 
@@ -62,14 +62,13 @@ module _ (config : Config) (rules : Spelled) (sessions : List Session) (now : �
       → IfOk (in_leg config rules sessions now view) (λ passage. (u : Session) × In u sessions × HasPeer view.proto passage.dst view.dst view.src.addr u)
   in-known by none outside plain = in-ways config rules sessions now view (λ passage. (u : Session) × In u sessions × HasPeer view.proto passage.dst view.dst view.src.addr u)
       (λ s e. absurd (none-some s (sym none ∙ e)))
-      (λ inside _ h.
+      (λ inside h.
       let m = mapping-lets config.filtering sessions view.src.addr mapped inside (sym (given-mapping outside plain) ∙ h) in
       let parts = maps_outside-parts view.proto view.dst m.0 (find-In (maps_outside view.proto view.dst) sessions m.0 m.1).1 in
       let knows : lets_in filtering.Address sessions m.0 view.src.addr ≡ true = subst (λ f. lets_in f sessions m.0 view.src.addr ≡ true) by m.3 in
       let u = found-in (has_peer m.0.proto m.0.inside m.0.outside view.src.addr) sessions knows in
       let peer = has_peer-true m.0.proto m.0.inside m.0.outside view.src.addr u.0 u.2 in
       (u.0, u.1, (peer.0 ∙ parts.1, peer.1 ∙ m.2, peer.2 ∙ parts.2, peer.3)))
-      (find (has_outside view.proto view.dst view.src) sessions) refl
 
 -- ---- where a packet is dropped as Filtered
 
@@ -91,43 +90,28 @@ module _ (Q : Cause → Type 0) where
   err-port (Some e) here = tt
 
 module _ (config : Config) (rules : Spelled) (sessions : List Session) (now : ℕ) (view : View) (Q : Cause → Type 0) (others : (cause : Cause) → cause ≢ Filtered → Q cause) where
-  no_session : Q NoSession
-  no_session = others NoSession (λ e. cc)
-
-  rule : Q Rule
-  rule = others Rule (λ e. cc)
-
-  no_port : Q NoPort
-  no_port = others NoPort (λ e. cc)
-
-  clash : Q Clash
-  clash = others Clash (λ e. cc)
-
-  full : Q TableFull
-  full = others TableFull (λ e. cc)
-
   begun-err : (passage : Passage) → IfErr (counted config rules sessions now view passage) Q
-  begun-err passage = err-unless Q (nat_lt most_sessions (length (put_all passage.sessions sessions))) TableFull (Ok passage) full (tt {0})
+  begun-err passage = err-unless Q (nat_lt most_sessions (length (put_all passage.sessions sessions))) TableFull (Ok passage) (others TableFull (λ e. cc)) (tt {0})
 
   -- a packet that goes out never is
   source-err : (how : Source) → IfErr (outside_by_rules config rules sessions now view how) Q
   source-err source.None = tt
-  source-err (source.From addr) = err-port Q _ no_port
-  source-err source.Masquerade = err-port Q _ no_port
-  source-err source.Drop = rule
+  source-err (source.From addr) = err-port Q _ (others NoPort (λ e. cc))
+  source-err source.Masquerade = err-port Q _ (others NoPort (λ e. cc))
+  source-err source.Drop = others Rule (λ e. cc)
 
   outside-err : (found : Option Session) → IfErr (outside_for config rules sessions now view found) Q
   outside-err (Some m) = tt
   outside-err None = source-err (postrouting_verdict config (facts_of config rules sessions now view Lan (Some Wan) view.src view.dst New) rules)
 
   out-err : (found : Option Session) → IfErr (out_by config rules sessions now view found) Q
-  out-err (Some s) = err-filtered Q {A = Passage} _ (Ok (outward (passed_by s Inside view.flags now))) rule (tt {0})
+  out-err (Some s) = err-filtered Q {A = Passage} _ (Ok (outward (passed_by s Inside view.flags now))) (others Rule (λ e. cc)) (tt {0})
   out-err None =
       let outside_is = outside_for config rules sessions now view (find (maps_inside view.proto view.src) sessions) in
       let begun = λ (outside : Endpoint). counted config rules sessions now view (outward (new_session config rules sessions now view Inside view.src outside view.dst)) in
       let way = then_with outside_is begun in
-      err-unless Q (needs_session view) NoSession (forwarded config rules sessions now view Lan Wan view.src view.dst New way) no_session
-      (err-filtered Q (forward_verdict config (facts_of config rules sessions now view Lan (Some Wan) view.src view.dst New) rules) way rule
+      err-unless Q (needs_session view) NoSession (forwarded config rules sessions now view Lan Wan view.src view.dst New way) (others NoSession (λ e. cc))
+      (err-filtered Q (forward_verdict config (facts_of config rules sessions now view Lan (Some Wan) view.src view.dst New) rules) way (others Rule (λ e. cc))
       (err-then Q outside_is begun (outside-err (find (maps_inside view.proto view.src) sessions)) (λ outside. begun-err (outward (new_session config rules sessions now view Inside view.src outside view.dst)))))
 
   pub out-dropped : IfErr (out_leg config rules sessions now view) Q
@@ -135,38 +119,35 @@ module _ (config : Config) (rules : Spelled) (sessions : List Session) (now : �
 
   -- one that comes in is as its inside endpoint is found
   in-err : IfErr (inside_for config rules sessions now view) Q → (found : Option Session) → IfErr (in_by config rules sessions now view found) Q
-  in-err far (Some s) = err-filtered Q {A = Passage} _ (Ok (inward (passed_by s Remote view.flags now))) rule (tt {0})
-  in-err far None = err-unless Q {A = Passage} _ NoSession _ no_session (err-then Q {A = Passage} (inside_for config rules sessions now view) _ far
+  in-err far (Some s) = err-filtered Q {A = Passage} _ (Ok (inward (passed_by s Remote view.flags now))) (others Rule (λ e. cc)) (tt {0})
+  in-err far None = err-unless Q {A = Passage} _ NoSession _ (others NoSession (λ e. cc)) (err-then Q {A = Passage} (inside_for config rules sessions now view) _ far
       (λ inside.
       let t = new_session config rules sessions now view Remote inside view.dst view.src in
-      err-unless Q {A = Passage} (is_some (find (clashes t) sessions)) Clash (forwarded config rules sessions now view Wan Lan view.src inside New (counted config rules sessions now view (inward t))) clash
-      (err-filtered Q {A = Passage} _ (counted config rules sessions now view (inward t)) rule (begun-err (inward t)))))
-
-  pub in-dropped : IfErr (inside_for config rules sessions now view) Q → IfErr (in_leg config rules sessions now view) Q
-  in-dropped far = in-err far (find (has_outside view.proto view.dst view.src) sessions)
+      err-unless Q {A = Passage} (is_some (find (clashes t) sessions)) Clash (forwarded config rules sessions now view Wan Lan view.src inside New (counted config rules sessions now view (inward t))) (others Clash (λ e. cc))
+      (err-filtered Q {A = Passage} _ (counted config rules sessions now view (inward t)) (others Rule (λ e. cc)) (begun-err (inward t)))))
 
   -- one that hairpins is as the far inside endpoint is found
   near-err : (found : Option Session) → IfErr (outside_near config rules sessions now view found) Q
   near-err (Some m) = tt
-  near-err None = err-port Q _ no_port
+  near-err None = err-port Q _ (others NoPort (λ e. cc))
 
   first-err : (found : Option Session) → IfErr (first_by config rules sessions now view found) Q
   first-err (Some s) = tt
-  first-err None = err-unless Q {A = Session} _ NoSession _ no_session (err-then Q {A = Session} (outside_near config rules sessions now view (find (maps_inside view.proto view.src) sessions)) _
+  first-err None = err-unless Q {A = Session} _ NoSession _ (others NoSession (λ e. cc)) (err-then Q {A = Session} (outside_near config rules sessions now view (find (maps_inside view.proto view.src) sessions)) _
       (near-err (find (maps_inside view.proto view.src) sessions)) (λ outside. tt {0}))
 
   module _ (far : (first : Session) (held : List Session) → IfErr (inside_far config rules sessions now view first held) Q) where
     second-err : (first : Session) (held : List Session) (found : Option Session) → IfErr (second_by config rules sessions now view first held found) Q
     second-err first held (Some s) = tt
-    second-err first held None = err-unless Q {A = Session} _ NoSession _ no_session (err-then Q {A = Session} (inside_far config rules sessions now view first held) _ (far first held) (λ inside.
+    second-err first held None = err-unless Q {A = Session} _ NoSession _ (others NoSession (λ e. cc)) (err-then Q {A = Session} (inside_far config rules sessions now view first held) _ (far first held) (λ inside.
         let t = new_session config rules sessions now view Remote inside view.dst first.outside in
-        err-unless Q {A = Session} (is_some (find (clashes t) held)) Clash (Ok t) clash (tt {0})))
+        err-unless Q {A = Session} (is_some (find (clashes t) held)) Clash (Ok t) (others Clash (λ e. cc)) (tt {0})))
 
     pub hairpin-dropped : IfErr (hairpin_leg config rules sessions now view) Q
     hairpin-dropped = err-then Q {A = Passage} (first_by config rules sessions now view (find (has_inside view.proto view.src view.dst) sessions)) _ (first-err (find (has_inside view.proto view.src view.dst) sessions)) (λ first.
         err-then Q {A = Passage} (second config rules sessions now view first (put first sessions)) _
         (err-unless Q {A = Session} (same_endpoint first.outside view.dst) SelfMapped _ (others SelfMapped (λ e. cc)) (second-err first (put first sessions) (find (has_outside view.proto view.dst first.outside) (put first sessions))))
-        (λ t. err-filtered Q {A = Passage} _ (counted config rules sessions now view (through first t)) rule (begun-err (through first t))))
+        (λ t. err-filtered Q {A = Passage} _ (counted config rules sessions now view (through first t)) (others Rule (λ e. cc)) (begun-err (through first t))))
 
   -- ---- only a mapping drops so
 
@@ -182,7 +163,7 @@ module _ (config : Config) (rules : Spelled) (sessions : List Session) (now : �
       → (d : Destination) → IfErr (inside_by_rules config rules sessions now view sessions' remote found d) Q
   rules-err sessions' remote found stranger destination.None = mapping-err sessions' remote found stranger
   rules-err sessions' remote found stranger (destination.To inside) = tt
-  rules-err sessions' remote found stranger destination.Drop = rule
+  rules-err sessions' remote found stranger destination.Drop = others Rule (λ e. cc)
 
   near-in : (b : Bool) → (b ≡ false → IfErr (inside_by_rules config rules sessions now view sessions view.src.addr (find (maps_outside view.proto view.dst) sessions)
       (prerouting_verdict config (facts_of config rules sessions now view Wan None view.src view.dst New) rules)) Q)
@@ -193,9 +174,9 @@ module _ (config : Config) (rules : Spelled) (sessions : List Session) (now : �
 
   pub in-stranger : ((m : Session) → is_inside config view.dst.addr ≡ false → find (maps_outside view.proto view.dst) sessions ≡ Some m → lets_in config.filtering sessions m view.src.addr ≡ false → Q Filtered)
       → IfErr (in_leg config rules sessions now view) Q
-  in-stranger stranger = in-dropped (near-in (is_inside config view.dst.addr) (λ outside.
+  in-stranger stranger = in-err (near-in (is_inside config view.dst.addr) (λ outside.
       rules-err sessions view.src.addr (find (maps_outside view.proto view.dst) sessions) (λ m. stranger m outside)
-      (prerouting_verdict config (facts_of config rules sessions now view Wan None view.src view.dst New) rules)))
+      (prerouting_verdict config (facts_of config rules sessions now view Wan None view.src view.dst New) rules))) (find (has_outside view.proto view.dst view.src) sessions)
 
   pub hairpin-stranger : ((held : List Session) (remote : ℕ) (m : Session) → lets_in config.filtering held m remote ≡ false → Q Filtered) → IfErr (hairpin_leg config rules sessions now view) Q
   hairpin-stranger stranger = hairpin-dropped (λ first held.

@@ -25,7 +25,6 @@ pub mod Staying
 pub mod Steps
 pub mod Telling
 pub mod Updated
-pub mod Ways
 pub mod Passages
 pub mod Left
 pub mod Refreshing

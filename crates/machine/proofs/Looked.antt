@@ -24,8 +24,7 @@ use Rattle.hairpin.proofs.Apart.{taken-from}
 use Rattle.hairpin.proofs.Pairs.{uses-is}
 use Rattle.hairpin.proofs.Soundness.{filter-all}
 use Rattle.machine.specs.Hosts.{IsOccupied}
-use Rattle.machine.specs.Order.{FirstDrops, Reason, cause_of}
-use Rattle.machine.specs.Order.{ForwardDrops}
+use Rattle.machine.specs.Order.{FirstDrops, Reason, cause_of, ForwardDrops}
 use Rattle.machine.specs.Requirements.{NoneInside}
 use Rattle.machine.proofs.Choosing.{full-at}
 
@@ -42,6 +41,11 @@ module _ (Holds : Reason → Type 0) where
 
   pub skipped : (way : Result Passage Cause) (why : Reason) (more : List Reason) → ¬ Holds why → Ordered way more → Ordered way (why ∷ more)
   skipped way why more never rest = ((λ holds. absurd (never holds)), (λ none. rest))
+
+  -- several that don't hold
+  pub skips : (way : Result Passage Cause) (whys more : List Reason) → AllByRecursion (λ why. ¬ Holds why) whys → Ordered way more → Ordered way (whys ++ more)
+  skips way [] more never rest = rest
+  skips way (why ∷ whys) more never rest = skipped way why (whys ++ more) never.0 (skips way whys more never.1 rest)
 
   pub holding : (way : Result Passage Cause) (why : Reason) (more : List Reason) → Holds why → way ≡ Err (cause_of why) → Ordered way (why ∷ more)
   holding way why more holds is = ((λ h. is), (λ none. absurd (none holds)))
@@ -61,15 +65,11 @@ module _ (Holds : Reason → Type 0) where
 
 -- ---- one session more
 
-new-flows : (t : Session) (sessions : List Session) → NoneInside sessions t.proto t.inside t.remote → length (put t sessions) ≡ length sessions + 1
-new-flows t sessions none =
-    ap (λ (xs : List Session). length (insert t xs)) (filter-all (λ u. not (same_flow t u)) sessions (λ u in_u. ap not (false_from_ne_true _ (λ h. none u in_u (has_inside-true t.proto t.inside t.remote u h)))))
-    ∙ length-insert t sessions
-
 -- the test of too many
 pub one-more : (t : Session) (sessions : List Session) → NoneInside sessions t.proto t.inside t.remote → (nat_lt 65536 (length (put t sessions)) ≡ true → 65536 ≤ length sessions) × (65536 ≤ length sessions → nat_lt 65536 (length (put t sessions)) ≡ true)
 one-more t sessions none =
-    let many = new-flows t sessions none in (
+    let others = filter-all (λ u. not (same_flow t u)) sessions (λ u in_u. ap not (false_from_ne_true _ (λ h. none u in_u (has_inside-true t.proto t.inside t.remote u h)))) in
+    let many : length (put t sessions) ≡ length sessions + 1 = ap (λ (xs : List Session). length (insert t xs)) others ∙ length-insert t sessions in (
       (λ h. omega (arith, many, ltb-true 65536 (length (put t sessions)) h)),
       (λ le. lt-ltb 65536 (length (put t sessions)) (omega (arith, many, le))),
     )
@@ -83,9 +83,6 @@ module _ (sessions : List Session) (proto : Proto) (port : ℕ) (some : 0 < port
   pub none-at : (addr : ℕ) → IsFull addr → port_at (is_taken sessions proto) port addr ≡ None
   none-at addr full = ap (option_map (endpoint addr)) ((determined (is_taken sessions proto addr) port some fits).none.1 (λ other alike.
       let held = full other alike in taken-from sessions proto addr other held.0 held.1 held.2 held.3))
-
-  pub some-not-full : (addr : ℕ) (e : Endpoint) → port_at (is_taken sessions proto) port addr ≡ Some e → ¬ IsFull addr
-  some-not-full addr e is full = none-some e (sym (none-at addr full) ∙ is)
 
   -- each of the addresses
   pub all-none : (pool : Pool) → AllByRecursion IsFull pool → first_port (is_taken sessions proto) port pool ≡ None
@@ -114,9 +111,6 @@ module _ (sessions : List Session) (host : ℕ) where
   abbrev IsFirstOf : Pool → ℕ → Type 0
   IsFirstOf pool addr = (before : Pool) × (behind : Pool) × (pool ≡ before ++ addr ∷ behind) × AllByRecursion (λ a. ¬ IsAt sessions host a) before × IsAt sessions host addr
 
-  not-used : (a : ℕ) → uses_in sessions host a ≡ false → ¬ IsAt sessions host a
-  not-used a h at = false≢true (sym h ∙ is-uses sessions host a at)
-
   pub first-of : (pool : Pool) (addr : ℕ) → find (uses_in sessions host) pool ≡ Some addr → IsFirstOf pool addr
   first-of [] addr h = absurd (none-some addr h)
   first-of (a ∷ pool) addr h = elim (cases_Bool (uses_in sessions host a)) [
@@ -125,7 +119,7 @@ module _ (sessions : List Session) (host : ℕ) where
         subst (IsFirstOf (a ∷ pool)) same ([], pool, refl, tt, uses-is sessions host a is)
     | inr isnt ↦
         let rest = first-of pool addr (sym (ap (λ b. cond b (Some a) (find (uses_in sessions host) pool)) isnt) ∙ h) in
-        (a ∷ rest.0, rest.1, ap (λ (p : Pool). a ∷ p) rest.2, (not-used a isnt, rest.3), rest.4)
+        (a ∷ rest.0, rest.1, ap (λ (p : Pool). a ∷ p) rest.2, ((λ at. false≢true (sym isnt ∙ is-uses sessions host a at)), rest.3), rest.4)
   ]
 
   find-behind : (before behind : Pool) (addr : ℕ) → AllByRecursion (λ a. ¬ IsAt sessions host a) before → IsAt sessions host addr → find (uses_in sessions host) (before ++ addr ∷ behind) ≡ Some addr

@@ -12,12 +12,12 @@ use Rattle.portpick.specs.Pool.{choice_by, pool_choice, port_at}
 use Rattle.sessions.specs.Laws.{IsMapping}
 use Rattle.sessions.specs.Listing.{In, clashes, has_inside, has_outside, put}
 use Rattle.sessions.specs.Sound.{AreSound}
-use Rattle.sessions.specs.Table.{Clash as Clashing, HasInside, HasOutside}
+use Rattle.sessions.specs.Table.{Clash as Clashing, HasInside}
 use Rattle.sessions.specs.declared.session.Opener.TheVariants.{Inside, Remote}
 use Rattle.sessions.specs.declared.session.Session.{Session}
 use Rattle.sessions.proofs.Clashing.{Clash-clashes, clashes-Clash}
 use Rattle.sessions.proofs.Found.{has_outside-from, has_outside-true}
-use Rattle.sessions.proofs.Puts.{find-some, has_inside-from, has_inside-true, keys-from}
+use Rattle.sessions.proofs.Puts.{find-some, has_inside-true, keys-from}
 use Rattle.verdict.specs.Hooks.{forward_verdict, prerouting_verdict, postrouting_verdict}
 use Rattle.verdict.specs.declared.facts.State.{State as Connection}
 use Rattle.verdict.specs.declared.facts.State.TheVariants.{New}
@@ -31,18 +31,17 @@ use Rattle.hairpin.specs.Legs.{Passage, begun_in, begun_out, connection_of, coun
 use Rattle.hairpin.specs.Paired.{IsAt}
 use Rattle.hairpin.specs.declared.cause.Cause.{Cause}
 use Rattle.hairpin.specs.declared.cause.Cause.TheVariants as cause
-use Rattle.hairpin.proofs.Apart.{agree, cases_endpoint, find-In, maps-from, maps-parts, maps_outside-from, maps_outside-parts}
+use Rattle.hairpin.proofs.Apart.{agree, find-In, maps_outside-from, maps_outside-parts}
 use Rattle.hairpin.proofs.Pairs.{found-in}
 use Rattle.machine.specs.Machine.{State}
 use Rattle.machine.specs.Order as order
-use Rattle.machine.specs.Order.{HoldsIn, HoldsOut, Reason, cause_of, reasons}
-use Rattle.machine.specs.Order.{NeedsSession, ForwardDrops, PostroutingDrops, PreroutingDrops, NoPortLeft, Unmapped, KeptOut, Clashes, NoRoom}
+use Rattle.machine.specs.Order.{HoldsIn, HoldsOut, Reason, NeedsSession, ForwardDrops, PostroutingDrops, PreroutingDrops, NoPortLeft, Unmapped, KeptOut, Clashes, NoRoom}
 use Rattle.machine.specs.Requirements.{NoneInside, NoneOutside}
 use Rattle.machine.proofs.Admitting.{lets-true}
 use Rattle.machine.proofs.Choosing.{full-at}
-use Rattle.machine.proofs.Called.{lets-known}
-use Rattle.machine.proofs.Looked.{Ordered, all-none, filtered, first-of, holding, moved, none-all, none-at, none-of, nowhere-of, of-first, one-more, skipped, tested}
-use Rattle.machine.proofs.Passing.{one-of-flow}
+use Rattle.machine.proofs.Called.{is-mapped, lets-known, not-found, not-mapped}
+use Rattle.machine.proofs.Looked.{Ordered, all-none, filtered, first-of, holding, moved, none-all, none-at, none-of, nowhere-of, of-first, one-more, skipped, skips, tested}
+use Rattle.machine.proofs.Passing.{one-of-flow, one-outside}
 
 module _ (config : Config) (s : State) (view : View) (sound : AreSound config s.sessions) where
   abbrev sessions : List Session
@@ -115,12 +114,8 @@ module _ (config : Config) (s : State) (view : View) (sound : AreSound config s.
       -- a mapping gives the outside endpoint
       mapped-out : (m : Session) → found_map ≡ Some m → Out' (begun (Ok m.outside)) (PostroutingDrops ∷ NoPortLeft ∷ NoRoom ∷ [])
       mapped-out m e =
-          let is = find-In (maps_inside view.proto view.src) sessions m e in
-          let parts = maps-parts view.proto view.src m is.1 in
-          let mapping : IsMapping sessions view.proto view.src m.outside = record { session = m; is_held = is.0; translated = parts.0; proto = parts.1; inside = parts.2; outside = refl } in
-          let way = begun (Ok m.outside) in
-          skipped (HoldsOut config s view) way PostroutingDrops (NoPortLeft ∷ NoRoom ∷ []) (λ h. h.1 m.outside mapping)
-          (skipped (HoldsOut config s view) way NoPortLeft (NoRoom ∷ []) (λ h. h.1 m.outside mapping) (room-out m.outside new))
+          let mapping = is-mapped config s view m e m.outside refl in
+          skips (HoldsOut config s view) (begun (Ok m.outside)) (PostroutingDrops ∷ NoPortLeft ∷ []) (NoRoom ∷ []) ((λ h. h.1 m.outside mapping), ((λ h. h.1 m.outside mapping), tt)) (room-out m.outside new)
 
       module _ (unmapped : (outside : Endpoint) → ¬ IsMapping sessions view.proto view.src outside) where
         abbrev Fails : Source → Type 0
@@ -154,16 +149,12 @@ module _ (config : Config) (s : State) (view : View) (sound : AreSound config s.
             not-dropped source.Masquerade e (λ h. cc) (begun (or_no_port choice))
             (given source.Masquerade e choice
             (λ none. inr (refl, pool-full.0 none))
-            (λ fails. elim fails [
-              | inl from ↦ let no : source.Masquerade ≡ source.From from.0 = from.1 in absurd cc
-              | inr all ↦ pool-full.1 all.1
-            ]))
+            (λ fails. elim fails [ inl from ↦ let no : source.Masquerade ≡ source.From from.0 = from.1 in absurd cc | inr all ↦ pool-full.1 all.1 ]))
         by-source source.Drop e = holding (HoldsOut config s view) (Err cause.Rule) PostroutingDrops (NoPortLeft ∷ NoRoom ∷ []) (new, unmapped, e) refl
 
       by-map : (found : Option Session) → found_map ≡ found → Out' (begun (outside_for config s.rules sessions now view found)) (PostroutingDrops ∷ NoPortLeft ∷ NoRoom ∷ [])
       by-map (Some m) e = mapped-out m e
-      by-map None e = by-source (λ outside m. none-some (find-some (maps_inside view.proto view.src) sessions m.session m.is_held (maps-from view.proto view.src m.session m.translated m.proto m.inside)).0
-          (sym e ∙ (find-some (maps_inside view.proto view.src) sessions m.session m.is_held (maps-from view.proto view.src m.session m.translated m.proto m.inside)).1)) how refl
+      by-map None e = by-source (not-mapped config s view e) how refl
 
     out-by : (found : Option Session) → find (has_inside view.proto view.src view.dst) sessions ≡ found → Out' (out_by config s.rules sessions now view found) (NeedsSession ∷ ForwardDrops ∷ PostroutingDrops ∷ NoPortLeft ∷ NoRoom ∷ [])
     out-by (Some u) e =
@@ -180,21 +171,15 @@ module _ (config : Config) (s : State) (view : View) (sound : AreSound config s.
           | inl none ↦ absurd (none.0 u is.0 has)
           | inr known ↦ subst (λ c. verdict_out c ≡ forwarding.Drop) (known.3 ∙ ap (λ (v : Session). connection_of v Inside view.flags) (one-inside known.0 u known.1 is.0 known.2 has)) h.2
         ])
-        (skipped H (Ok p) PostroutingDrops (NoPortLeft ∷ NoRoom ∷ []) (λ h. h.0 u is.0 has)
-        (skipped H (Ok p) NoPortLeft (NoRoom ∷ []) (λ h. h.0 u is.0 has)
-        (skipped H (Ok p) NoRoom [] (λ h. h.0 u is.0 has) (p, refl)))))
+        (skips H (Ok p) (PostroutingDrops ∷ NoPortLeft ∷ NoRoom ∷ []) [] ((λ h. h.0 u is.0 has), ((λ h. h.0 u is.0 has), ((λ h. h.0 u is.0 has), tt))) (p, refl)))
     out-by None e =
         let H = HoldsOut config s view in
-        let new : NoneInside sessions view.proto view.src view.dst = λ u in_u own.
-        let found = find-some (has_inside view.proto view.src view.dst) sessions u in_u (has_inside-from view.proto view.src view.dst u own) in none-some found.0 (sym e ∙ found.1) in
+        let new = not-found view.proto view.src view.dst sessions e in
         let way = begun_out config s.rules sessions now view in
         tested H NeedsSession (ForwardDrops ∷ PostroutingDrops ∷ NoPortLeft ∷ NoRoom ∷ []) (needs_session view) (unless_dropped (verdict_out New) way) (λ needs. (new, needs)) (λ h. h.1) (λ _.
         filtered H (PostroutingDrops ∷ NoPortLeft ∷ NoRoom ∷ []) (verdict_out New) way
         (λ drops. (New, inl (new, refl), drops))
-        (λ h. elim h.1 [
-          | inl none ↦ subst (λ c. verdict_out c ≡ forwarding.Drop) none.1 h.2
-          | inr known ↦ absurd (new known.0 known.1 known.2)
-        ])
+        (λ h. elim h.1 [ inl none ↦ subst (λ c. verdict_out c ≡ forwarding.Drop) none.1 h.2 | inr known ↦ absurd (new known.0 known.1 known.2) ])
         (by-map new found_map refl))
 
     pub out-ordered : Out' (out_leg config s.rules sessions now view) (NeedsSession ∷ ForwardDrops ∷ PostroutingDrops ∷ NoPortLeft ∷ NoRoom ∷ [])
@@ -246,13 +231,10 @@ module _ (config : Config) (s : State) (view : View) (iif : Iface) (remote : End
         asks d d' a b = sym a ∙ b
 
         by-session : (e : decided ≡ destination.None) (found : Option Session) → find (maps_outside view.proto view.dst) held ≡ found → Ordered H (by-rules found destination.None) (Unmapped ∷ KeptOut ∷ more)
-        by-session e None none = holding H (by-rules None destination.None) Unmapped (KeptOut ∷ more) (shares.unmapped.1 (
-          new,
-          (outside, e),
-          λ inside m.
-              let found = find-some (maps_outside view.proto view.dst) held m.session m.is_held (maps_outside-from view.proto view.dst m.session m.translated m.proto m.outside) in
-              none-some found.0 (sym none ∙ found.1),
-        )) refl
+        by-session e None none =
+            let never : (inside : Endpoint) → ¬ IsMapping held view.proto inside view.dst = λ inside m.
+            let found = find-some (maps_outside view.proto view.dst) held m.session m.is_held (maps_outside-from view.proto view.dst m.session m.translated m.proto m.outside) in none-some found.0 (sym none ∙ found.1) in
+            holding H (by-rules None destination.None) Unmapped (KeptOut ∷ more) (shares.unmapped.1 (new, (outside, e), never)) refl
         by-session e (Some m) is =
             let found = find-In (maps_outside view.proto view.dst) held m is in
             let parts = maps_outside-parts view.proto view.dst m found.1 in
@@ -288,14 +270,11 @@ module _ (config : Config) (s : State) (view : View) (iif : Iface) (remote : End
       -- an inside destination asks no chain
       pub by-inside : is_inside config view.dst.addr ≡ true → Ordered H (next view.dst) (PreroutingDrops ∷ Unmapped ∷ KeptOut ∷ more)
       by-inside inside =
-          skipped H (next view.dst) PreroutingDrops (Unmapped ∷ KeptOut ∷ more) (λ h. false≢true (sym (shares.prerouting.0 h).1.0 ∙ inside))
-          (skipped H (next view.dst) Unmapped (KeptOut ∷ more) (λ h. false≢true (sym (shares.unmapped.0 h).1.0 ∙ inside))
-          (skipped H (next view.dst) KeptOut more (λ h. false≢true (sym (shares.kept.0 h).1.0 ∙ inside))
-          (then_ordered view.dst (inl (inside, refl)))))
+          let never : is_inside config view.dst.addr ≡ false → ⊥ = λ outside. false≢true (sym outside ∙ inside) in
+          skips H (next view.dst) (PreroutingDrops ∷ Unmapped ∷ KeptOut ∷ []) more ((λ h. never (shares.prerouting.0 h).1.0), ((λ h. never (shares.unmapped.0 h).1.0), ((λ h. never (shares.kept.0 h).1.0), tt))) (then_ordered view.dst (inl (inside, refl)))
 
     -- a clash of the new session
-    pub by-clash : (inside : Endpoint) → Leads inside → (way : Result Passage Cause)
-        → (NoneInside held view.proto inside remote → Ordered H way more)
+    pub by-clash : (inside : Endpoint) → Leads inside → (way : Result Passage Cause) → (NoneInside held view.proto inside remote → Ordered H way more)
         → Ordered H (if is_some (find (clashes (order.new_to config s view iif remote held inside)) held) then Err cause.Clash else way) (Clashes ∷ more)
     by-clash inside leads way rest =
         let t = order.new_to config s view iif remote held inside in
@@ -318,12 +297,6 @@ module _ (config : Config) (s : State) (view : View) (sound : AreSound config s.
 
   abbrev verdict_in : Endpoint → Connection → Forwarding
   verdict_in inside state = forward_verdict config (facts_of config s.rules s.sessions s.clock view Wan (Some Lan) view.src inside state) s.rules
-
-  one-outside : (u v : Session) → In u s.sessions → In v s.sessions → HasOutside view.proto view.dst view.src u → HasOutside view.proto view.dst view.src v → u ≡ v
-  one-outside u v in_u in_v a b = elim (cases_endpoint u.inside v.inside) [
-    | inl e ↦ one-of-flow s.sessions sound.rises u v in_u in_v (keys-from v u (a.0 ∙ sym b.0, e, a.2 ∙ sym b.2))
-    | inr ne ↦ absurd (sound.apart u v in_u in_v (λ e. ne (ap (λ (w : Session). w.inside) e)) (inr (inl (b.0 ∙ sym a.0, b.1 ∙ sym a.1, b.2 ∙ sym a.2))))
-  ]
 
   shares-in : Shares config s view Wan view.src s.sessions sound.apart (HoldsIn config s view Wan view.src s.sessions)
   shares-in = record { prerouting = (λ h. h, λ h. h); unmapped = (λ h. h, λ h. h); kept = (λ h. h, λ h. h); clashes = (λ h. h, λ h. h) }
@@ -370,21 +343,18 @@ module _ (config : Config) (s : State) (view : View) (sound : AreSound config s.
       let state = connection_of u Remote view.flags in
       let p = inward (passed_by u Remote view.flags s.clock) in
       let way = unless_dropped (verdict_in u.inside state) (Ok p) in
-      skipped H way NeedsSession (PreroutingDrops ∷ Unmapped ∷ KeptOut ∷ Clashes ∷ ForwardDrops ∷ NoRoom ∷ []) (λ h. h.0 u is.0 has)
-      (skipped H way PreroutingDrops (Unmapped ∷ KeptOut ∷ Clashes ∷ ForwardDrops ∷ NoRoom ∷ []) (λ h. h.0 u is.0 has)
-      (skipped H way Unmapped (KeptOut ∷ Clashes ∷ ForwardDrops ∷ NoRoom ∷ []) (λ h. h.0 u is.0 has)
-      (skipped H way KeptOut (Clashes ∷ ForwardDrops ∷ NoRoom ∷ []) (λ h. h.0 u is.0 has)
-      (skipped H way Clashes (ForwardDrops ∷ NoRoom ∷ []) (λ h. h.0 u is.0 has)
+      skips H way (NeedsSession ∷ PreroutingDrops ∷ Unmapped ∷ KeptOut ∷ Clashes ∷ []) (ForwardDrops ∷ NoRoom ∷ [])
+      ((λ h. h.0 u is.0 has), ((λ h. h.0 u is.0 has), ((λ h. h.0 u is.0 has), ((λ h. h.0 u is.0 has), ((λ h. h.0 u is.0 has), tt)))))
       (filtered H (NoRoom ∷ []) (verdict_in u.inside state) (Ok p)
       (λ drops. (u.inside, state, inr (u, is.0, has, refl, refl), drops))
       (λ h. elim h.2 [
         | inl fresh ↦ absurd (fresh.0 u is.0 has)
         | inr known ↦
-            let same = one-outside known.0 u known.1 is.0 known.2 has in
+            let same = one-outside s.sessions sound.rises sound.apart view.proto view.dst view.src known.0 u known.1 is.0 known.2 has in
             subst (λ (v : Session). verdict_in v.inside (connection_of v Remote view.flags) ≡ forwarding.Drop) same
             (subst (λ c. verdict_in known.0.inside c ≡ forwarding.Drop) known.4 (subst (λ x. verdict_in x h.1 ≡ forwarding.Drop) known.3 h.3))
       ])
-      (skipped H (Ok p) NoRoom [] (λ h. h.0 u is.0 has) (p, refl)))))))
+      (skipped H (Ok p) NoRoom [] (λ h. h.0 u is.0 has) (p, refl)))
   in-by None e =
       let new : NoneOutside s.sessions view.proto view.dst view.src = λ u in_u own.
       let found = find-some (has_outside view.proto view.dst view.src) s.sessions u in_u (has_outside-from view.proto view.dst view.src u own) in none-some found.0 (sym e ∙ found.1) in

@@ -1,9 +1,8 @@
 -- The order in which a hairpin is dropped.
-use Rattle.std.proofs.Common.{◌≡◌, ◌≢◌, ◌⊎◌, ℕ, ◌<◌, ◌^◌, Bool, true, false, List, [], ◌∷◌, length, Contains, Option, Some, None, is_some, Result, Ok, Err, not, nat_lt, if◌then◌else◌, refl, sym, ap, ◌∙◌, subst, inl, inr}
+use Rattle.std.proofs.Common.{◌≡◌, ◌≢◌, ℕ, ◌<◌, ◌^◌, Bool, true, false, List, [], ◌∷◌, length, Contains, Option, Some, None, is_some, Result, Ok, Err, nat_lt, if◌then◌else◌, refl, sym, ap, ◌∙◌, subst, inl, inr}
 use Rattle.std.specs.Prelude.{find}
-use Rattle.std.specs.List.{filter}
 use Rattle.std.specs.Option.{unwrap_or}
-use Rattle.std.proofs.lemmas.Bool.{cases_Bool, false≢true, false_from_ne_true, ltb-true, lt-ltb, not-true}
+use Rattle.std.proofs.lemmas.Bool.{cases_Bool, false≢true, false_from_ne_true, ltb-true, lt-ltb}
 use Rattle.std.proofs.lemmas.Option.{none-some}
 use Rattle.packet.proofs.SameLemmas.{same_endpoint-true}
 use Rattle.packet.specs.Config.{Config, is_config, is_inside}
@@ -14,17 +13,16 @@ use Rattle.packet.specs.declared.view.View.{View}
 use Rattle.portpick.specs.Choice.{IsNearest, after, port_choice}
 use Rattle.portpick.specs.Pool.{endpoint, near_choice, port_at}
 use Rattle.portpick.proofs.Chosen.{choice-some, nearest-once}
-use Rattle.sessions.specs.Laws.{IsMapping}
 use Rattle.sessions.specs.Listing.{In, Rises, clashes, has_inside, has_outside, put, same_flow}
 use Rattle.sessions.specs.Sound.{AreSound}
-use Rattle.sessions.specs.Table.{Clash as Clashing, HasOutside}
+use Rattle.sessions.specs.Table.{Clash as Clashing}
 use Rattle.sessions.specs.declared.session.Opener.TheVariants.{Inside, Remote}
 use Rattle.sessions.specs.declared.session.Session.{Session}
 use Rattle.sessions.proofs.Clashing.{same_endpoint-from}
 use Rattle.sessions.proofs.Found.{has_outside-from, has_outside-true}
 use Rattle.sessions.proofs.Held.{Clash-same_keys, Clash-sym, SameKeys-refl}
-use Rattle.sessions.proofs.Puts.{find-some, has_inside-from, has_inside-true, keys-from}
-use Rattle.sessions.proofs.Sets.{In-filter, In-insert, same_endpoints}
+use Rattle.sessions.proofs.Puts.{find-some, has_inside-true}
+use Rattle.sessions.proofs.Sets.{same_endpoints}
 use Rattle.verdict.specs.Hooks.{forward_verdict, prerouting_verdict}
 use Rattle.verdict.specs.declared.facts.State.{State as Connection}
 use Rattle.verdict.specs.declared.facts.State.TheVariants.{New}
@@ -34,35 +32,26 @@ use Rattle.hairpin.specs.Legs.{Passage, begun_second, connection_of, counted, fa
 use Rattle.hairpin.specs.Paired.{IsAt}
 use Rattle.hairpin.specs.declared.cause.Cause.{Cause}
 use Rattle.hairpin.specs.declared.cause.Cause.TheVariants as cause
-use Rattle.hairpin.proofs.Apart.{agree, cases_endpoint, find-In, mapped-some, maps-from, maps-parts, outside_away, taken-by, taken-from}
+use Rattle.hairpin.proofs.Apart.{agree, find-In, mapped-some, outside_away, taken-by, taken-from}
 use Rattle.hairpin.proofs.Choosing.{near-is as near-choice}
 use Rattle.hairpin.proofs.Doubling.{IsFirst, Rises-put, first-is, passed-flow, passed-keys}
 use Rattle.machine.specs.Hosts.{IsOccupied}
 use Rattle.machine.specs.Machine.{State}
 use Rattle.machine.specs.Order as order
-use Rattle.machine.specs.Order.{HoldsHairpin, HoldsIn, Reason, cause_of}
-use Rattle.machine.specs.Order.{NeedsSession, ForwardDrops, PreroutingDrops, NoPortLeft, Unmapped, KeptOut, Clashes, OwnEndpoint, NeedsFarSession, NoRoom}
+use Rattle.machine.specs.Order.{HoldsHairpin, Reason, NeedsSession, ForwardDrops, PreroutingDrops, NoPortLeft, Unmapped, KeptOut, Clashes, OwnEndpoint, NeedsFarSession, NoRoom}
 use Rattle.machine.specs.Requirements.{IsStateOut, NoneInside, NoneOutside}
+use Rattle.machine.proofs.Called.{is-mapped, not-found, not-mapped}
 use Rattle.machine.proofs.Choosing.{full-at}
-use Rattle.machine.proofs.Looked.{Ordered, filtered, first-of, holding, moved, none-at, none-of, nowhere-of, of-first, skipped, tested}
+use Rattle.machine.proofs.Hairpinning.{near-addr, put-of}
+use Rattle.machine.proofs.Looked.{Ordered, filtered, first-of, holding, moved, none-at, nowhere-of, skipped, skips, tested}
 use Rattle.machine.proofs.Ordered.{Shares, by-clash, by-destination, one-inside, one-way}
-use Rattle.machine.proofs.Passing.{one-of-flow}
-
--- one of a set with one more is that one, or one of another flow
-put-of : (t : Session) (sessions : List Session) (u : Session) → In u (put t sessions) → (u ≡ t) ⊎ (In u sessions × (same_flow t u ≡ false))
-put-of t sessions u is = elim (In-insert t (filter (λ v. not (same_flow t v)) sessions) u is) [
-  | inl e ↦ inl e
-  | inr old ↦ let kept = In-filter (λ v. not (same_flow t v)) sessions u old in inr (kept.0, not-true _ kept.1)
-]
+use Rattle.machine.proofs.Passing.{one-outside}
 
 -- sessions that stand apart do so with one more that stands apart from those of other flows
 put-apart : (t : Session) (sessions : List Session) → ((u v : Session) → In u sessions → In v sessions → u ≢ v → ¬ Clashing u v) → ((u : Session) → In u sessions → same_flow t u ≡ false → ¬ Clashing t u)
     → (u v : Session) → In u (put t sessions) → In v (put t sessions) → u ≢ v → ¬ Clashing u v
 put-apart t sessions apart own u v in_u in_v ne clash = elim (put-of t sessions u in_u) [
-  | inl is_u ↦ elim (put-of t sessions v in_v) [
-    | inl is_v ↦ ne (is_u ∙ sym is_v)
-    | inr old_v ↦ own v old_v.0 old_v.1 (subst (λ x. Clashing x v) is_u clash)
-  ]
+  | inl is_u ↦ elim (put-of t sessions v in_v) [ inl is_v ↦ ne (is_u ∙ sym is_v) | inr old_v ↦ own v old_v.0 old_v.1 (subst (λ x. Clashing x v) is_u clash) ]
   | inr old_u ↦ elim (put-of t sessions v in_v) [
     | inl is_v ↦ own u old_u.0 old_u.1 (Clash-sym u t (subst (λ x. Clashing u x) is_v clash))
     | inr old_v ↦ apart u v old_u.0 old_v.0 ne clash
@@ -109,10 +98,6 @@ module _ (config : Config) (s : State) (view : View) (is_one : is_config config 
 
   -- ---- the first session is one
 
-  near-is : (a : ℕ) → order.IsNear config s view a → a ≡ unwrap_or (find uses config.external) view.dst.addr
-  near-is a (inl first) = sym (ap (λ o. unwrap_or o view.dst.addr) (of-first sessions view.src.addr config.external a first))
-  near-is a (inr nowhere) = nowhere.1 ∙ sym (ap (λ o. unwrap_or o view.dst.addr) (none-of sessions view.src.addr config.external nowhere.0))
-
   near-by : (o : Option ℕ) → find uses config.external ≡ o → order.IsNear config s view (unwrap_or o view.dst.addr)
   near-by (Some a) e = inl (first-of sessions view.src.addr config.external a e)
   near-by None e = inr (nowhere-of sessions view.src.addr config.external listed e, refl)
@@ -124,7 +109,7 @@ module _ (config : Config) (s : State) (view : View) (is_one : is_config config 
   one-source e f (inl a) (inr b) = absurd (b.0 e a)
   one-source e f (inr a) (inl b) = absurd (a.0 f b)
   one-source e f (inr a) (inr b) =
-      let addr : e.addr ≡ f.addr = near-is e.addr a.1 ∙ sym (near-is f.addr b.1) in
+      let addr : e.addr ≡ f.addr = near-addr config s view e.addr a.1 ∙ sym (near-addr config s view f.addr b.1) in
       same_endpoints e f addr (nearest-once (IsOccupied sessions view.proto f.addr) view.src.port e.port f.port (subst (λ x. IsNearest (IsOccupied sessions view.proto x) view.src.port e.port) addr a.2) b.2)
 
   one-first : (a b : Session) → First a → First b → a ≡ b
@@ -177,12 +162,6 @@ module _ (config : Config) (s : State) (view : View) (is_one : is_config config 
 
     -- ---- the second goes on
 
-    one-outside : (u v : Session) → In u held → In v held → HasOutside view.proto view.dst first.outside u → HasOutside view.proto view.dst first.outside v → u ≡ v
-    one-outside u v in_u in_v a b = elim (cases_endpoint u.inside v.inside) [
-      | inl e ↦ one-of-flow held rises u v in_u in_v (keys-from v u (a.0 ∙ sym b.0, e, a.2 ∙ sym b.2))
-      | inr ne ↦ absurd (apart u v in_u in_v (λ e. ne (ap (λ (w : Session). w.inside) e)) (inr (inl (b.0 ∙ sym a.0, b.1 ∙ sym a.1, b.2 ∙ sym a.2))))
-    ]
-
     abbrev Behind : List Reason
     Behind = NeedsFarSession ∷ PreroutingDrops ∷ Unmapped ∷ KeptOut ∷ Clashes ∷ Later
 
@@ -191,18 +170,14 @@ module _ (config : Config) (s : State) (view : View) (is_one : is_config config 
         let known = find-In (has_outside view.proto view.dst first.outside) held u e in
         let has = has_outside-true view.proto view.dst first.outside u known.1 in
         let t = passed_by u Remote view.flags now in
-        let way = on t in
         let not_new : NoneOutside held view.proto view.dst first.outside → ⊥ = λ none. none u known.0 has in
         let one : (v : Session) → order.IsSecond config s view first v → v ≡ t = λ v second_is. elim second_is [
-          | inl by ↦ by.3 ∙ ap (λ (w : Session). passed_by w Remote view.flags now) (one-outside by.0 u by.1 known.0 by.2 has)
+          | inl by ↦ by.3 ∙ ap (λ (w : Session). passed_by w Remote view.flags now) (one-outside held rises apart view.proto view.dst first.outside by.0 u by.1 known.0 by.2 has)
           | inr fresh ↦ absurd (not_new fresh.0)
         ] in
-        skipped H way NeedsFarSession (PreroutingDrops ∷ Unmapped ∷ KeptOut ∷ Clashes ∷ Later) (λ h. not_new (said NeedsFarSession h).0)
-        (skipped H way PreroutingDrops (Unmapped ∷ KeptOut ∷ Clashes ∷ Later) (λ h. not_new (said PreroutingDrops h).0)
-        (skipped H way Unmapped (KeptOut ∷ Clashes ∷ Later) (λ h. not_new (said Unmapped h).0)
-        (skipped H way KeptOut (Clashes ∷ Later) (λ h. not_new (said KeptOut h).0)
-        (skipped H way Clashes Later (λ h. not_new (said Clashes h).0)
-        (on-ordered t (inl (u, known.0, has, refl)) one)))))
+        skips H (on t) (NeedsFarSession ∷ PreroutingDrops ∷ Unmapped ∷ KeptOut ∷ Clashes ∷ []) Later
+        ((λ h. not_new (said NeedsFarSession h).0), ((λ h. not_new (said PreroutingDrops h).0), ((λ h. not_new (said Unmapped h).0), ((λ h. not_new (said KeptOut h).0), ((λ h. not_new (said Clashes h).0), tt)))))
+        (on-ordered t (inl (u, known.0, has, refl)) one)
     second-ordered None e =
         let new : NoneOutside held view.proto view.dst first.outside = λ u in_u own.
         let found = find-some (has_outside view.proto view.dst first.outside) held u in_u (has_outside-from view.proto view.dst first.outside u own) in none-some found.0 (sym e ∙ found.1) in
@@ -255,11 +230,6 @@ module _ (config : Config) (s : State) (view : View) (is_one : is_config config 
     a0 = unwrap_or (find uses config.external) view.dst.addr
 
     module _ (none : found_map ≡ None) where
-      unmapped : (outside : Endpoint) → ¬ IsMapping sessions view.proto view.src outside
-      unmapped outside m =
-          let found = find-some (maps_inside view.proto view.src) sessions m.session m.is_held (maps-from view.proto view.src m.session m.translated m.proto m.inside) in
-          none-some found.0 (sym none ∙ found.1)
-
       nearest : (q : ℕ) → port_choice (taken a0) view.src.port ≡ Some q → IsNearest (IsOccupied sessions view.proto a0) view.src.port q
       nearest q h =
           let near = choice-some (taken a0) view.src.port some fits q h in
@@ -276,20 +246,18 @@ module _ (config : Config) (s : State) (view : View) (is_one : is_config config 
       chosen-ordered : (o : Option Endpoint) → near_choice uses taken config.external view.dst.addr view.src.port ≡ o → Ordered H (then_with (or_no_port o) go) (NoPortLeft ∷ Rest)
       chosen-ordered None e =
           let none_at : port_at taken view.src.port a0 ≡ None = sym (near-choice uses taken config.external view.src.port view.dst.addr) ∙ e in
-          holding H (Err cause.NoPort) NoPortLeft Rest (new, unmapped, (a0, near-by (find uses config.external) refl, full-at sessions view.proto view.src.port some fits a0 none_at)) refl
+          holding H (Err cause.NoPort) NoPortLeft Rest (new, not-mapped config s view none, (a0, near-by (find uses config.external) refl, full-at sessions view.proto view.src.port some fits a0 none_at)) refl
       chosen-ordered (Some x) e =
           let some_at : port_at taken view.src.port a0 ≡ Some x = sym (near-choice uses taken config.external view.src.port view.dst.addr) ∙ e in
           let q = mapped-some (endpoint a0) (port_choice (taken a0) view.src.port) x some_at in
           skipped H (go x) NoPortLeft Rest
-          (λ h. none-some x (sym (none-at sessions view.proto view.src.port some fits a0 (subst (order.IsFull config s view) (near-is h.2.0 h.2.1) h.2.2)) ∙ some_at))
+          (λ h. none-some x (sym (none-at sessions view.proto view.src.port some fits a0 (subst (order.IsFull config s view) (near-addr config s view h.2.0 h.2.1) h.2.2)) ∙ some_at))
           (going x (ap (outside_near config s.rules sessions now view) none ∙ ap or_no_port e)
-          (inr (unmapped, (subst IsChosen q.2 (near-by (find uses config.external) refl, nearest q.0 q.1)).0, (subst IsChosen q.2 (near-by (find uses config.external) refl, nearest q.0 q.1)).1)))
+          (let chosen = subst IsChosen q.2 (near-by (find uses config.external) refl, nearest q.0 q.1) in inr (not-mapped config s view none, chosen.0, chosen.1)))
 
     near-ordered : (found : Option Session) → found_map ≡ found → Ordered H (then_with (outside_near config s.rules sessions now view found) go) (NoPortLeft ∷ Rest)
     near-ordered (Some m) e =
-        let is = find-In (maps_inside view.proto view.src) sessions m e in
-        let parts = maps-parts view.proto view.src m is.1 in
-        let mapping : IsMapping sessions view.proto view.src m.outside = record { session = m; is_held = is.0; translated = parts.0; proto = parts.1; inside = parts.2; outside = refl } in
+        let mapping = is-mapped config s view m e m.outside refl in
         skipped H (go m.outside) NoPortLeft Rest (λ h. h.1 m.outside mapping) (going m.outside (ap (outside_near config s.rules sessions now view) e) (inl mapping))
     near-ordered None e = chosen-ordered e (near_choice uses taken config.external view.dst.addr view.src.port) refl
 
@@ -300,7 +268,6 @@ module _ (config : Config) (s : State) (view : View) (is_one : is_config config 
       let first = passed_by u Inside view.flags now in
       let keys = passed-keys u Inside view.flags now in
       let state = connection_of u Inside view.flags in
-      let way = far_on state first in
       let own : (v : Session) → In v sessions → same_flow first v ≡ false → ¬ Clashing first v = λ v in_v other clash.
       sound.apart u v known.0 in_v (λ same. false≢true (sym other ∙ subst (λ w. same_flow first w ≡ true) same (passed-flow u Inside view.flags now)))
       (Clash-same_keys u v first v keys (SameKeys-refl v) clash) in
@@ -308,12 +275,10 @@ module _ (config : Config) (s : State) (view : View) (is_one : is_config config 
         | inl none ↦ absurd (none.0 u known.0 has)
         | inr by ↦ by.3 ∙ ap (λ (v : Session). connection_of v Inside view.flags) (one-inside config s view sound by.0 u by.1 known.0 by.2 has)
       ] in
-      skipped H way NeedsSession (NoPortLeft ∷ OwnEndpoint ∷ NeedsFarSession ∷ PreroutingDrops ∷ Unmapped ∷ KeptOut ∷ Clashes ∷ Later) (λ h. h.0 u known.0 has)
-      (skipped H way NoPortLeft (OwnEndpoint ∷ NeedsFarSession ∷ PreroutingDrops ∷ Unmapped ∷ KeptOut ∷ Clashes ∷ Later) (λ h. h.0 u known.0 has)
-      (behind-first state (inr (u, known.0, has, refl)) one_state first (inl (u, known.0, has, refl)) (Rises-put first sessions sound.rises) (put-apart first sessions sound.apart own)))
+      skips H (far_on state first) (NeedsSession ∷ NoPortLeft ∷ []) Rest ((λ h. h.0 u known.0 has), ((λ h. h.0 u known.0 has), tt))
+      (behind-first state (inr (u, known.0, has, refl)) one_state first (inl (u, known.0, has, refl)) (Rises-put first sessions sound.rises) (put-apart first sessions sound.apart own))
   hairpin-ordered-by None e =
-      let new : NoneInside sessions view.proto view.src view.dst = λ u in_u own.
-      let found = find-some (has_inside view.proto view.src view.dst) sessions u in_u (has_inside-from view.proto view.src view.dst u own) in none-some found.0 (sym e ∙ found.1) in
+      let new = not-found view.proto view.src view.dst sessions e in
       let one_state : (c : Connection) → IsStateOut s view c → c ≡ New = λ c st. elim st [ inl none ↦ none.1 | inr by ↦ absurd (new by.0 by.1 by.2) ] in
       let begin : Endpoint → Result Session Cause = λ outside. Ok (new_session config s.rules sessions now view Inside view.src outside view.dst) in
       let near = outside_near config s.rules sessions now view found_map in

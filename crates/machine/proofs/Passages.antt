@@ -1,5 +1,5 @@
--- What is told of a leg that lets a packet pass.
-use Rattle.std.proofs.Common.{◌≡◌, ◌⊎◌, ℕ, false, List, Option, Some, None, is_some, length, nat_lt, Result, Ok, refl, sym, ap, inl, inr, if◌then◌else◌}
+-- What is told of a leg that lets a packet pass, and so what holds of all that it may come to.
+use Rattle.std.proofs.Common.{◌≡◌, ◌⊎◌, ℕ, Bool, true, false, List, Option, Some, None, is_some, length, nat_lt, Result, Ok, Err, IfOk, refl, sym, ap, subst, inl, inr, if◌then◌else◌}
 use Rattle.std.specs.Prelude.{find}
 use Rattle.std.proofs.lemmas.Bool.{cases_Bool}
 use Rattle.packet.specs.Config.{Config}
@@ -26,7 +26,18 @@ use Rattle.hairpin.specs.declared.cause.Cause.{Cause}
 use Rattle.hairpin.specs.declared.cause.Cause.TheVariants.{Clash, NoSession, Rule, SelfMapped, TableFull}
 use Rattle.hairpin.proofs.Apart.{err-ok, same_Ok}
 use Rattle.hairpin.proofs.Doubling.{gone}
-use Rattle.machine.proofs.Ways.{then-ok, unless-ok}
+
+pub unless-ok : {A : Type 0} (b : Bool) (cause : Cause) (way : Result A Cause) (x : A) → (if b then Err cause else way) ≡ Ok x → (b ≡ false) × (way ≡ Ok x)
+unless-ok true cause way x e = absurd (err-ok cause x e)
+unless-ok false cause way x e = (refl, e)
+
+pub then-ok : {A B : Type 0} (r : Result A Cause) (next : A → Result B Cause) (y : B) → then_with r next ≡ Ok y → (a : A) × (r ≡ Ok a) × (next a ≡ Ok y)
+then-ok (Err cause) next y e = absurd (err-ok cause y e)
+then-ok (Ok a) next y e = (a, refl, e)
+
+pub ok-by : {A : Type 0} (P : A → Type 0) (way : Result A Cause) → ((x : A) → way ≡ Ok x → P x) → IfOk way P
+ok-by P (Err cause) all = tt
+ok-by P (Ok x) all = all x refl
 
 passed-ok : {A : Type 0} (verdict : Forwarding) (way : Result A Cause) (x : A) → unless_dropped verdict way ≡ Ok x → (verdict ≡ forwarding.Pass) × (way ≡ Ok x)
 passed-ok forwarding.Drop way x e = absurd (err-ok Rule x e)
@@ -74,6 +85,15 @@ module _ (config : Config) (rules : Spelled) (sessions : List Session) (now : �
   pub out-told : (p : Passage) → out_leg config rules sessions now view ≡ Ok p → GoesOn p ⊎ BeginsOut p
   out-told p h = out-told-by found_out refl p h
 
+  -- a packet goes out by its session, or by one that begins at the outside endpoint that it is given
+  pub out-ways : (P : Passage → Type 0) → ((s : Session) → found_out ≡ Some s → P (outward (passed_by s Inside view.flags now)))
+      → ((outside : Endpoint) → outside_for config rules sessions now view (find (maps_inside view.proto view.src) sessions) ≡ Ok outside → P (outward (new_out outside)))
+      → IfOk (out_leg config rules sessions now view) P
+  out-ways P goes begins = ok-by P (out_leg config rules sessions now view) (λ p h. elim (out-told p h) [
+    | inl on ↦ subst P (sym on.2) (goes on.0 on.1)
+    | inr begun ↦ subst P (sym begun.2.2) (begins begun.2.0 begun.2.1)
+  ])
+
   -- ---- in
 
   abbrev pub found_in : Option Session
@@ -104,6 +124,15 @@ module _ (config : Config) (rules : Spelled) (sessions : List Session) (now : �
   pub in-told : (p : Passage) → in_leg config rules sessions now view ≡ Ok p → ComesOn p ⊎ BeginsIn p
   in-told p h = in-told-by found_in refl p h
 
+  -- a packet comes in by its session, or by one that begins at the inside endpoint that it is given
+  pub in-ways : (P : Passage → Type 0) → ((s : Session) → found_in ≡ Some s → P (inward (passed_by s Remote view.flags now)))
+      → ((inside : Endpoint) → inside_for config rules sessions now view ≡ Ok inside → P (inward (new_in inside)))
+      → IfOk (in_leg config rules sessions now view) P
+  in-ways P goes begins = ok-by P (in_leg config rules sessions now view) (λ p h. elim (in-told p h) [
+    | inl on ↦ subst P (sym on.2) (goes on.0 on.1)
+    | inr begun ↦ subst P (sym begun.2.3) (begins begun.2.0 begun.2.1)
+  ])
+
   -- ---- hairpin
 
   abbrev pub FirstGoesOn : Session → Type 0
@@ -120,9 +149,6 @@ module _ (config : Config) (rules : Spelled) (sessions : List Session) (now : �
       let begun = unless-ok (needs_session view) NoSession (then_with near (λ outside. Ok (new_out outside))) first h in
       let new = then-ok near (λ outside. Ok (new_out outside)) first begun.1 in
       inr (e, begun.0, (new.0, new.1, sym (same_Ok (new_out new.0) first new.2)))
-
-  pub first-told : (first : Session) → first_by config rules sessions now view found_out ≡ Ok first → FirstGoesOn first ⊎ FirstBegins first
-  first-told first h = first-told-by found_out refl first h
 
   -- the second, among the sessions with the first one
   module _ (first : Session) (held : List Session) where
@@ -148,9 +174,6 @@ module _ (config : Config) (rules : Spelled) (sessions : List Session) (now : �
         let free = unless-ok (is_some (find (clashes (new_far new.0)) held)) Clash (Ok (new_far new.0)) t new.2 in
         inr (e, begun.0, (new.0, new.1, gone (find (clashes (new_far new.0)) held) free.0, sym (same_Ok (new_far new.0) t free.1)))
 
-    pub second-told : (t : Session) → second_by config rules sessions now view first held found_far ≡ Ok t → SecondGoesOn t ⊎ SecondBegins t
-    second-told t h = second-told-by found_far refl t h
-
   -- both are different, and the packet leaves by them
   pub record Hairpinned (p : Passage) : Type 0 where
     pub first : Session
@@ -175,9 +198,9 @@ module _ (config : Config) (rules : Spelled) (sessions : List Session) (now : �
       record {
         first = first;
         far = t;
-        by_first = first-told first one.1;
+        by_first = first-told-by found_out refl first one.1;
         away = other.0;
-        by_far = second-told first (put first sessions) t other.1;
+        by_far = second-told-by first (put first sessions) (found_far first (put first sessions)) refl t other.1;
         lets = passes.0;
         are = sym (counted-ok (through first t) p passes.1);
       }

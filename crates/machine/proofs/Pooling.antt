@@ -1,24 +1,15 @@
 -- What the legs come to with several addresses and each filtering, step by step.
-use Rattle.std.proofs.Common.{◌≡◌, ◌≢◌, ℕ, ◌<◌, ◌^◌, List, ◌∷◌, ◌++◌, None, Result, Ok, Err, IfErr, false, refl, sym, ap, ◌∙◌, subst, arith}
+use Rattle.std.proofs.Common.{◌≡◌, ◌≢◌, ℕ, ◌<◌, ◌^◌, List, ◌∷◌, ◌++◌, None, Result, Ok, Err, IfErr, false, refl, sym, ap, ◌∙◌, subst, inl, inr, arith}
 use Rattle.std.specs.Prelude.{find}
 use Rattle.std.specs.List.{AllByRecursion}
 use Rattle.std.proofs.lemmas.Bool.{false≢true}
 use Rattle.std.proofs.lemmas.Result.{IfOk-at_ok}
 use Rattle.packet.specs.Config.{Config, Pool, is_inside}
-use Rattle.packet.specs.Fields.{fields}
-use Rattle.packet.specs.Numbers.{fault_number, route_fault_number}
-use Rattle.packet.specs.Route.{route}
 use Rattle.packet.specs.declared.bounds.Filtering.TheVariants as filtering
 use Rattle.packet.specs.declared.endpoint.Endpoint.{Endpoint}
-use Rattle.packet.specs.declared.endpoint.Iface.{Iface}
 use Rattle.packet.specs.declared.endpoint.Iface.TheVariants.{Lan, Wan}
-use Rattle.packet.specs.declared.fault.Fault.{Fault}
-use Rattle.packet.specs.declared.fault.Fault.TheVariants as fault
 use Rattle.packet.specs.declared.route.Route.{Route}
-use Rattle.packet.specs.declared.route.Route.TheVariants.{Out, Hairpin}
-use Rattle.packet.specs.declared.route.Route.TheVariants.{In as InRoute}
-use Rattle.packet.specs.declared.route.RouteFault.{RouteFault}
-use Rattle.packet.specs.declared.route.RouteFault.TheVariants as route_fault
+use Rattle.packet.specs.declared.route.Route.TheVariants.{Out, Hairpin, In as InRoute}
 use Rattle.packet.specs.declared.view.View.{View}
 use Rattle.packet.proofs.Routes.{routed_is_on_route}
 use Rattle.portpick.specs.Choice.{AllTaken, IsAlike}
@@ -42,14 +33,13 @@ use Rattle.hairpin.specs.Paired.{IsAt}
 use Rattle.machine.specs.Hosts.{IsOccupied}
 use Rattle.machine.specs.Judged.{Judged}
 use Rattle.machine.specs.Laws.{Begins, Came, IsLeftAlone, Masquerades, living}
-use Rattle.machine.specs.Machine.{State, act, leg, later, on_route, sent, step, with_fields}
+use Rattle.machine.specs.Machine.{State, leg, later, sent, step}
 use Rattle.machine.specs.Sound.{IsSoundState}
-use Rattle.machine.specs.declared.deed.Deed.{Deed}
-use Rattle.machine.specs.declared.deed.Deed.TheVariants as deed
+use Rattle.machine.specs.declared.event.Answer.{Answer}
 use Rattle.machine.specs.declared.event.Answer.TheVariants.{Dropped}
 use Rattle.machine.proofs.Choosing.{hairpin-class, hairpin-paired, out-class, out-full, out-paired}
 use Rattle.machine.proofs.Letting.{hairpin-stranger, in-known, in-stranger, kept-out, known-in, out-dropped}
-use Rattle.machine.proofs.Passing.{answer-of}
+use Rattle.machine.proofs.Passing.{act-told, answer-of, fault-not, route-not}
 use Rattle.machine.proofs.Reading.{ports_are_some}
 use Rattle.machine.proofs.Staying.{at-listed}
 
@@ -143,33 +133,11 @@ module _ (config : Config) (s : State) (judged : Judged) (bytes : List ℕ) (vie
 
 -- ---- what is dropped as Filtered
 
-fault-not : (f : Fault) → fault_number f ≢ 14
-fault-not fault.Short e = omega (arith, e)
-fault-not fault.Version e = omega (arith, e)
-fault-not fault.HeaderLength e = omega (arith, e)
-fault-not fault.Length e = omega (arith, e)
-fault-not fault.HeaderSum e = omega (arith, e)
-fault-not fault.Fragment e = omega (arith, e)
-fault-not fault.Protocol e = omega (arith, e)
-fault-not fault.Transport e = omega (arith, e)
-fault-not fault.PortZero e = omega (arith, e)
-
-route-not : (f : RouteFault) → route_fault_number f ≢ 14
-route-not route_fault.Ttl e = omega (arith, e)
-route-not route_fault.Spoofed e = omega (arith, e)
-route-not route_fault.NoRoute e = omega (arith, e)
-
 number-once : (c : Cause) → cause_number c ≡ 14 → c ≡ cause.Filtered
 number-once (cause.Packet f) e = absurd (fault-not f e)
 number-once (cause.Route f) e = absurd (route-not f e)
-number-once cause.NoMapping e = absurd (omega (arith, e))
 number-once cause.Filtered e = refl
-number-once cause.NoSession e = absurd (omega (arith, e))
-number-once cause.Rule e = absurd (omega (arith, e))
-number-once cause.Clash e = absurd (omega (arith, e))
-number-once cause.SelfMapped e = absurd (omega (arith, e))
-number-once cause.NoPort e = absurd (omega (arith, e))
-number-once cause.TableFull e = absurd (omega (arith, e))
+number-once c e = absurd (omega (arith, e))
 
 -- what is sent is dropped so only where its leg says so
 sent-filtered : (s : State) (bytes : List ℕ) (Q : Cause → Type 0) (way : Result Passage Cause) → IfErr way Q → (sent s bytes way).1 ≡ Dropped (cause_number cause.Filtered) → Q cause.Filtered
@@ -206,20 +174,13 @@ module _ (config : Config) (s : State) where
   leg-filtered view Hairpin = hairpin-stranger config s.rules s.sessions s.clock view ByAddress (λ c away e. absurd (away e))
       (λ held remote m keeps_out e. kept-out config.filtering held m remote keeps_out)
 
-  route-filtered : (bytes : List ℕ) (view : View) (r : Result Route RouteFault) → (on_route config s bytes view r).1 ≡ Dropped (cause_number cause.Filtered) → config.filtering ≡ filtering.Address
-  route-filtered bytes view (Err f) e = let number : route_fault_number f ≡ 14 = cc in absurd (route-not f number)
-  route-filtered bytes view (Ok r) e = sent-filtered s bytes ByAddress (leg config s view r) (leg-filtered view r) e refl
-
-  fields-filtered : (iface : Iface) (bytes : List ℕ) (f : Result View Fault) → (with_fields config s iface bytes f).1 ≡ Dropped (cause_number cause.Filtered) → config.filtering ≡ filtering.Address
-  fields-filtered iface bytes (Err f) e = let number : fault_number f ≡ 14 = cc in absurd (fault-not f number)
-  fields-filtered iface bytes (Ok view) e = route-filtered bytes view (route config iface view) e
-
-  act-filtered : (d : Deed) → (act config s d).1 ≡ Dropped (cause_number cause.Filtered) → config.filtering ≡ filtering.Address
-  act-filtered (deed.Take text rules) e = absurd cc
-  act-filtered (deed.Refuse text) e = absurd cc
-  act-filtered (deed.Packet iface bytes) e = fields-filtered iface bytes (fields bytes) e
-  act-filtered deed.Moment e = absurd cc
-
 pub step-filtered : (config : Config) (s : State) (judged : Judged) → (step config s judged).1 ≡ Dropped (cause_number cause.Filtered) → config.filtering ≡ filtering.Address
 unfolding step
-step-filtered config s judged e = act-filtered config (living s judged) judged.deed e
+step-filtered config s judged e =
+    let live = living s judged in
+    elim (act-told config live judged.deed) [
+      | inl told ↦
+          let way = leg config live told.2 told.3 in
+          sent-filtered live told.1 (ByAddress config live) way (leg-filtered config live told.2 told.3) (ap (λ (done : State × Answer). done.1) (sym told.7) ∙ e) refl
+      | inr rests ↦ absurd (rests.2 e)
+    ]

@@ -18,9 +18,6 @@ contains-cases : (x : ℕ) (xs : List ℕ) (y : ℕ) → Contains (x ∷ xs) y �
 contains-cases x xs y (zero, lt, e) = inl (sym e)
 contains-cases x xs y (suc k, lt, e) = inr (k, omega (arith, lt), e)
 
-contains-head : (x : ℕ) (xs : List ℕ) → Contains (x ∷ xs) x
-contains-head x xs = (zero, omega arith, refl)
-
 contains-tail : (x : ℕ) (xs : List ℕ) (y : ℕ) → Contains xs y → Contains (x ∷ xs) y
 contains-tail x xs y (k, lt, e) = (suc k, omega (arith, lt), e)
 
@@ -31,7 +28,7 @@ module _ (held : List (Option Session)) where
   at-slot : (x : ℕ) (more : List ℕ) (t : Session) → (In t (sessions_at held more) → Holding more t) → (o : Option Session) → get_or held x None ≡ o
       → In t (with_it o (sessions_at held more)) → Holding (x ∷ more) t
   at-slot x more t rest None e is = let old = rest is in (old.0, contains-tail x more old.0 old.1, old.2)
-  at-slot x more t rest (Some s) e (inl q) = (x, contains-head x more, e ∙ ap Some (sym q))
+  at-slot x more t rest (Some s) e (inl q) = (x, (zero, omega arith, refl), e ∙ ap Some (sym q))
   at-slot x more t rest (Some s) e (inr there) = let old = rest there in (old.0, contains-tail x more old.0 old.1, old.2)
 
   In-at : (slots : List ℕ) (t : Session) → In t (sessions_at held slots) → Holding slots t

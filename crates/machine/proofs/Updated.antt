@@ -16,9 +16,7 @@ use Rattle.hairpin.proofs.Tally.{tally-update, tally-at, tally-some, weighs}
 use Rattle.machine.specs.Flows.{Tied}
 
 -- the table, the timers and the mappings after the slot got this
-pub Tied-update : (t t' : table.Sessions) (d d' : due.Watched) (m m' : Mappings) (slot : ℕ) (o : Option Session)
-    → Tied t d m
-    → table.Updates t t' slot o
+pub Tied-update : (t t' : table.Sessions) (d d' : due.Watched) (m m' : Mappings) (slot : ℕ) (o : Option Session) → Tied t d m → table.Updates t t' slot o
     → due.Updates d d' slot (option_map idle_of o)
     → ((p : Mapping) → times m' p + weight p (table.at t slot) ≡ times m p + weight p o)
     → Tied t' d' m'
