@@ -44,10 +44,4 @@ module _ (config : Config) (s : State) (judged : Judged) (iface : Iface) (bytes 
       let way = leg config live view r in
       let is = step-of config s judged iface bytes view r came in
       let passed = sent-passed live way bytes out packet (ap (λ (p : State × Answer). p.1) (sym is) ∙ e) in
-      record {
-        passage = passed.passage;
-        passes = passed.passes;
-        out_is = passed.out_is;
-        packet_is = passed.packet_is;
-        after_is = ap (λ (p : State × Answer). p.0) is ∙ passed.after_is;
-      }
+      record { passage = passed.passage; passes = passed.passes; out_is = passed.out_is; packet_is = passed.packet_is; after_is = ap (λ (p : State × Answer). p.0) is ∙ passed.after_is }
