@@ -71,8 +71,6 @@ none_due held now lives slot = (elim (get_or held slot None) as (λ o. get_or he
 pub none_over : (t : table.Sessions) (d : due.Watched) (m : Mappings) (now : ℕ) → Tied t d m → ((slot : ℕ) → ¬ IsSomeAnd (table.at t slot) (IsDue now)) → due.IsNoneOver d now
 none_over t d m now tied none slot over = none slot ((over_map (table.at t slot) now).0 (subst (λ o. IsSomeAnd o (due.IsOver now)) (tied.idle slot) over))
 
--- and where none is, no slot is one of those that are due
-pub none-listed : (held : List (Option Session)) (now : ℕ) (slots : List ℕ) → ((slot : ℕ) → Contains slots slot ↔ IsSomeAnd (get_or held slot None) (IsDue now)) → 0 < length slots
-    → ((slot : ℕ) → ¬ IsSomeAnd (get_or held slot None) (IsDue now)) → ⊥
-none-listed held now [] exactly some none = absurd (omega (arith, some))
-none-listed held now (slot ∷ slots) exactly some none = none slot ((exactly slot).0 (0, omega arith, refl))
+pub first_of : (slots : List ℕ) → 0 < length slots → (slot : ℕ) × Contains slots slot
+first_of [] lt = absurd (omega (arith, lt))
+first_of (slot ∷ slots) lt = (slot, (0, omega arith, refl))

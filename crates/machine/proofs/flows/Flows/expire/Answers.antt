@@ -1,10 +1,10 @@
-use Rattle.std.proofs.Common.{◌≡◌, ◌+◌, ◌*◌, [], length, Err, refl, sym, ap, subst, ◌∙◌, arith}
+use Rattle.std.proofs.Common.{◌≡◌, ◌<◌, ◌+◌, ◌*◌, [], length, Err, refl, sym, ap, subst, ◌∙◌, arith}
 use Rattle.std.proofs.lemmas.Grind.{common_steps}
 use Rattle.std.proofs.lemmas.Result.{err_from_is_err_and}
 use Rattle.durable.proofs.Errors.{same_error}
 use Rattle.machine.specs.Flows.{Flows}
 use Rattle.machine.specs.Noted.{ends, sessions_at}
-use Rattle.machine.proofs.Expiry.{expired, none-listed}
+use Rattle.machine.proofs.Expiry.{expired, first_of}
 use Rattle.machine.proofs.Keepings.{noted-behind, noted-nothing}
 use Rattle.machine.proofs.Slots.{length-at, none-over, slots-over, some-at}
 use Rattle.machine.proofs.flows.Flows.expire.Goals as goal
@@ -13,25 +13,36 @@ pub returns-then-is_empty-clause-ok : goal.returns-then-is_empty-clause-ok
 returns-then-is_empty-clause-ok g c =
     let held = c.args.self.now.table.held in
     let items = c.in-Ok.slots.items in
-    let empty : length items ≡ 0 = grind (arith, common_steps, c.if-is_empty.true, c.is_empty.ensures) in
+    let a = c.if-is_empty.true in
+    let b = c.is_empty.ensures in
+    let empty : length items ≡ 0 = grind (arith, common_steps) in
     expired held held items c.args.now c.slots_due.ensures.sound c.slots_due.ensures.sound c.in-Ok.ensures.exactly (λ k lt. absurd (omega arith)) (λ slot not_in. refl)
 
 pub returns-then-is_empty-clause-noted : goal.returns-then-is_empty-clause-noted
 returns-then-is_empty-clause-noted g c =
     let held = c.args.self.now.table.held in
     let items = c.in-Ok.slots.items in
-    let empty : length items ≡ 0 = grind (arith, common_steps, c.if-is_empty.true, c.is_empty.ensures) in
+    let a = c.if-is_empty.true in
+    let b = c.is_empty.ensures in
+    let empty : length items ≡ 0 = grind (arith, common_steps) in
     ([], none-over held c.slots_due.ensures.sound c.args.now items c.in-Ok.ensures.exactly c.in-Ok.ensures.once empty, noted-nothing g.N.Notes.keeps g.N.Notes.beside g.N.Notes.noted c.args.notes.now)
 
 pub returns-then-is_err-clause-succeeds : goal.returns-then-is_err-clause-succeeds
-returns-then-is_err-clause-succeeds g c = λ none. absurd (none-listed c.args.self.now.table.held c.args.now c.in-Ok.slots.items c.in-Ok.ensures.exactly (grind (arith, common_steps, c.if-is_empty.false, c.is_empty.ensures)) none)
+returns-then-is_err-clause-succeeds g c = λ none.
+    let items = c.in-Ok.slots.items in
+    let a = c.if-is_empty.false in
+    let b = c.is_empty.ensures in
+    let some : 0 < length items = grind (arith, common_steps) in
+    let first = first_of items some in
+    absurd (none first.0 ((c.in-Ok.ensures.exactly first.0).0 first.1))
 
 pub returns-in_err-reserve-clause-full : goal.returns-in_err-reserve-clause-full
 returns-in_err-reserve-clause-full g c = λ full.
     let p = err_from_is_err_and c.from_residual.result c.from_residual.ensures.1 in
     let held = c.args.self.now.table.held in
     let items = c.in-Ok.slots.items in
-    let count : c.len.result ≡ length items = grind (arith, common_steps, c.len.ensures) in
+    let b = c.len.ensures in
+    let count : c.len.result ≡ length items = grind (arith, common_steps) in
     let many = length-at held items (some-at held c.args.now items c.in-Ok.ensures.exactly) in (
       sessions_at held items,
       slots-over held c.slots_due.ensures.sound c.args.now items c.in-Ok.ensures.exactly c.in-Ok.ensures.once,
@@ -39,7 +50,13 @@ returns-in_err-reserve-clause-full g c = λ full.
     )
 
 pub returns-in_err-reserve-clause-succeeds : goal.returns-in_err-reserve-clause-succeeds
-returns-in_err-reserve-clause-succeeds g c = λ none. absurd (none-listed c.args.self.now.table.held c.args.now c.in-Ok.slots.items c.in-Ok.ensures.exactly (grind (arith, common_steps, c.if-is_empty.false, c.is_empty.ensures)) none)
+returns-in_err-reserve-clause-succeeds g c = λ none.
+    let items = c.in-Ok.slots.items in
+    let a = c.if-is_empty.false in
+    let b = c.is_empty.ensures in
+    let some : 0 < length items = grind (arith, common_steps) in
+    let first = first_of items some in
+    absurd (none first.0 ((c.in-Ok.ensures.exactly first.0).0 first.1))
 
 pub returns-clause-ok : goal.returns-clause-ok
 returns-clause-ok g c =
