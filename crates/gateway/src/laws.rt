@@ -9,7 +9,7 @@
 //!   makes such lives; `rests_in_lives`: from `open` and `run` on to the other calls
 //! - `calls_are_lives`: what `offer`, `take_packet`, `take_event`, `flush` and `settle` promise makes such lives; so do the
 //!   calls of `running`, which make these
-ghost use Rattle.std.specs.Prelude.{◌≡◌, ◌≢◌, ◌++◌, ◌∷◌, [], List, IfErr, IfOk, IsErr, MatchResult, OnErr, OnOk, true};
+ghost use Rattle.std.specs.Prelude.{◌≡◌, ◌≢◌, ◌++◌, [], List, IfErr, IfOk, IsErr, MatchResult, OnErr, OnOk, true};
 ghost use Rattle.packet.specs.Config.{Config};
 ghost use Rattle.disk_model.specs.Disk.{LeavesNow};
 ghost use Rattle.durable.specs.Entering.{Durable};

@@ -7,8 +7,7 @@ use Rattle.packet.specs.Translated.{translated}
 use Rattle.packet.specs.declared.endpoint.Iface.{Iface}
 use Rattle.packet.specs.declared.fault.Fault.{Fault}
 use Rattle.packet.specs.declared.route.Route.{Route}
-use Rattle.packet.specs.declared.route.Route.TheVariants.{Out, Hairpin}
-use Rattle.packet.specs.declared.route.Route.TheVariants.{In as InRoute}
+use Rattle.packet.specs.declared.route.Route.TheVariants.{Out, Hairpin, In as InRoute}
 use Rattle.packet.specs.declared.route.RouteFault.{RouteFault}
 use Rattle.packet.specs.declared.view.View.{View}
 use Rattle.packet.proofs.Routes.{routed_is_on_route}

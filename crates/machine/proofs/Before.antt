@@ -23,10 +23,7 @@ use Rattle.machine.specs.declared.event.Answer.{Answer}
 
 only-listed : (only addr : ℕ) → is_listed (only ∷ []) addr ≡ true → addr ≡ only
 unfolding is_listed
-only-listed only addr h = elim (or_cases (only == addr) false h) [
-  | inl same ↦ sym (same_eq only addr same)
-  | inr none ↦ absurd (false≢true none)
-]
+only-listed only addr h = elim (or_cases (only == addr) false h) [ inl same ↦ sym (same_eq only addr same) | inr none ↦ absurd (false≢true none) ]
 
 listed-only : (only addr : ℕ) → addr ≡ only → is_listed (only ∷ []) addr ≡ true
 unfolding is_listed

@@ -6,8 +6,7 @@ use Rattle.packet.specs.Config.{Config}
 use Rattle.packet.specs.declared.endpoint.Flags.{Flags}
 use Rattle.packet.specs.declared.endpoint.Proto.TheVariants.{Tcp}
 use Rattle.packet.specs.declared.route.Route.{Route}
-use Rattle.packet.specs.declared.route.Route.TheVariants.{Out, Hairpin}
-use Rattle.packet.specs.declared.route.Route.TheVariants.{In as InRoute}
+use Rattle.packet.specs.declared.route.Route.TheVariants.{Out, Hairpin, In as InRoute}
 use Rattle.packet.specs.declared.view.View.{View}
 use Rattle.sessions.specs.Life.{ack_bit, bit_if, fin_bit, has, is_acknowledged, is_closing, is_syn_alone, phase_of, reply_bit, reset_bit, restarts, same_side, shown}
 use Rattle.sessions.specs.Table.{seen}

@@ -23,12 +23,6 @@ alive-not_due now s h over = let lt = ltb-true _ _ h in omega arith
 pub due-not_alive : (now : ℕ) (s : Session) → alive now s ≡ false → IsDue now s
 due-not_alive now s h = ltb-false _ _ h
 
-IsSomeAnd-from : (P : Session → Type 0) (o : Option Session) (s : Session) → o ≡ Some s → P s → IsSomeAnd o P
-IsSomeAnd-from P o s is holds = subst (λ q. IsSomeAnd q P) (sym is) holds
-
-IsSomeAnd-to : (P : Session → Type 0) (o : Option Session) (s : Session) → o ≡ Some s → IsSomeAnd o P → P s
-IsSomeAnd-to P o s is holds = subst (λ q. IsSomeAnd q P) is holds
-
 pub expired : (old new : List (Option Session)) (slots : List ℕ) (now : ℕ) → IsSoundTable old → IsSoundTable new
     → ((slot : ℕ) → Contains slots slot ↔ IsSomeAnd (get_or old slot None) (IsDue now))
     → ((k : ℕ) → k < length slots → get_or new (get_or slots k 0) None ≡ None)
@@ -40,7 +34,7 @@ expired old new slots now sound_old sound_new exactly ended others =
     (λ s is.
     let kept = In-filter (alive now) (listing old) s is in
     let at = In-listing old s kept.0 in
-    let stays : ¬ Contains slots at.0 = λ has. alive-not_due now s kept.1 (IsSomeAnd-to (IsDue now) (get_or old at.0 None) s at.1 ((exactly at.0).0 has)) in
+    let stays : ¬ Contains slots at.0 = λ has. alive-not_due now s kept.1 (rw at.1 at ((exactly at.0).0 has)) in
     (at.0, others at.0 stays ∙ at.1))
     (λ slot s is.
     let stays : ¬ Contains slots slot = λ has.
@@ -49,10 +43,7 @@ expired old new slots now sound_old sound_new exactly ended others =
     none-some s (sym gone ∙ subst (λ k. get_or new k None ≡ Some s) (sym e) is) in
     let was : get_or old slot None ≡ Some s = sym (others slot stays) ∙ is in
     filter-In (alive now) (listing old) s (listing-In old s slot was)
-    (elim (cases_Bool (alive now s)) [
-      | inl lives ↦ lives
-      | inr over ↦ absurd (stays ((exactly slot).1 (IsSomeAnd-from (IsDue now) (get_or old slot None) s was (due-not_alive now s over))))
-    ]))
+    (elim (cases_Bool (alive now s)) [ inl lives ↦ lives | inr over ↦ absurd (stays ((exactly slot).1 (rw was (due-not_alive now s over)))) ]))
 
 -- what the timers say, said of the sessions
 latest_map : (o : Option Session) (now : ℕ) → ((s : Session) → o ≡ Some s → s.last ≤ now) → IfSome (option_map idle_of o) (λ i. i.last ≤ now)
@@ -66,23 +57,16 @@ over_map : (o : Option Session) (now : ℕ) → IsSomeAnd (option_map idle_of o)
 over_map None now = ((λ h. h), (λ h. h))
 over_map (Some s) now = ((λ h. h), (λ h. h))
 
-pub due_sessions : (t : table.Sessions) (d : due.Watched) (m : Mappings) (now : ℕ) (slots : List ℕ) → Tied t d m → due.AreDue d now slots → (slot : ℕ) → Contains slots slot ↔ IsSomeAnd (table.at t slot) (IsDue now)
-due_sessions t d m now slots tied are slot = (
-  (λ has. (over_map (table.at t slot) now).0 (subst (λ o. IsSomeAnd o (due.IsOver now)) (tied.idle slot) ((are.exactly slot).0 has))),
-  (λ is. (are.exactly slot).1 (subst (λ o. IsSomeAnd o (due.IsOver now)) (sym (tied.idle slot)) ((over_map (table.at t slot) now).1 is))),
-)
-
 pub due_held : (o : Option Session) (now : ℕ) → IsSomeAnd o (IsDue now) → IsSome o
 due_held None now is = absurd is
 due_held (Some s) now is = refl
 
 -- where every session is alive none is due
 pub none_due : (held : List (Option Session)) (now : ℕ) → ((t : Session) → In t (listing held) → alive now t ≡ true) → (slot : ℕ) → ¬ IsSomeAnd (get_or held slot None) (IsDue now)
-none_due held now lives slot = none_at (get_or held slot None) refl
-  where
-    none_at : (o : Option Session) → get_or held slot None ≡ o → ¬ IsSomeAnd o (IsDue now)
-    none_at None e h = absurd h
-    none_at (Some s) e h = alive-not_due now s (lives s (listing-In held s slot e)) h
+none_due held now lives slot = (elim (get_or held slot None) as (λ o. get_or held slot None ≡ o → ¬ IsSomeAnd o (IsDue now)) [
+  | None ↦ λ e h. h
+  | Some s ↦ λ e. alive-not_due now s (lives s (listing-In held s slot e))
+]) refl
 
 pub none_over : (t : table.Sessions) (d : due.Watched) (m : Mappings) (now : ℕ) → Tied t d m → ((slot : ℕ) → ¬ IsSomeAnd (table.at t slot) (IsDue now)) → due.IsNoneOver d now
 none_over t d m now tied none slot over = none slot ((over_map (table.at t slot) now).0 (subst (λ o. IsSomeAnd o (due.IsOver now)) (tied.idle slot) over))

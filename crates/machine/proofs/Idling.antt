@@ -1,5 +1,5 @@
 -- A session lives its time, and no longer.
-use Rattle.std.proofs.Common.{◌≡◌, ℕ, ◌+◌, ◌<◌, ◌≤◌, Bool, true, false, List, [], ◌∷◌, bit_or, if◌then◌else◌, refl, sym, ap, ◌∙◌, subst, inl, inr, arith}
+use Rattle.std.proofs.Common.{◌≡◌, ℕ, ◌+◌, ◌<◌, ◌≤◌, true, List, [], ◌∷◌, bit_or, refl, sym, ap, ◌∙◌, subst, inl, inr, arith}
 use Rattle.std.proofs.lemmas.Bool.{lt-ltb, ltb-true}
 use Rattle.packet.specs.Config.{Config, is_config}
 use Rattle.packet.specs.declared.endpoint.Flags.{Flags}
@@ -7,8 +7,8 @@ use Rattle.packet.specs.declared.endpoint.Proto.{Proto}
 use Rattle.packet.specs.declared.endpoint.Proto.TheVariants.{Tcp, Udp}
 use Rattle.sessions.specs.Life.{alive, is_acknowledged, is_closing, phase_of, shown, timeout_by, timeout_in, timeout_of}
 use Rattle.sessions.specs.Listing.{In}
-use Rattle.sessions.specs.Table.{HasInside, seen}
-use Rattle.sessions.specs.declared.life.Phase.TheVariants.{Closing, Established, Partial}
+use Rattle.sessions.specs.Table.{HasInside, restarted, seen}
+use Rattle.sessions.specs.declared.life.Phase.TheVariants.{Established}
 use Rattle.sessions.specs.declared.session.Opener.{Opener}
 use Rattle.sessions.specs.declared.session.Session.{Session}
 use Rattle.sessions.proofs.Puts.{keys-from}
@@ -19,10 +19,10 @@ use Rattle.machine.specs.Requirements.{Began, GoesOn, GoesOnEstablished, MayAlwa
 use Rattle.machine.specs.Sound.{IsSoundState}
 use Rattle.machine.specs.declared.event.Event.{Event}
 use Rattle.machine.proofs.Enduring.{established-on, never-restarts, stays-open}
-use Rattle.machine.proofs.Lasting.{step-clock}
+use Rattle.machine.proofs.Lasting.{least-phase, step-clock, timeout-some}
 use Rattle.machine.proofs.Lived.{living-stay}
 use Rattle.machine.proofs.Passing.{one-of-flow}
-use Rattle.machine.proofs.Soundness.{later-above, step-sound}
+use Rattle.machine.proofs.Soundness.{later-above, run-keeps, step-sound}
 
 -- ---- the times
 
@@ -32,48 +32,26 @@ idle-time t seconds (inr (inl partial)) = ap (λ p. timeout_by p t.seen) partial
 idle-time t seconds (inr (inr (inl established))) = ap (λ p. timeout_by p t.seen) established.0 ∙ ap timeout_in established.1 ∙ sym established.2
 idle-time t seconds (inr (inr (inr closing))) = ap (λ p. timeout_by p t.seen) closing.0 ∙ ap timeout_in closing.1 ∙ sym closing.2
 
-idle-some : (t : Session) (seconds : ℕ) → MayBeIdle t seconds → 0 < seconds
-idle-some t seconds (inl udp) = omega (arith, udp.1)
-idle-some t seconds (inr (inl partial)) = omega (arith, partial.2)
-idle-some t seconds (inr (inr (inl established))) = omega (arith, established.2)
-idle-some t seconds (inr (inr (inr closing))) = omega (arith, closing.2)
-
-least-phase : (closing established : Bool) → 240 ≤ timeout_in (if closing then Closing else (if established then Established else Partial))
-least-phase true established = omega arith
-least-phase false true = omega arith
-least-phase false false = omega arith
-
 least-time : (proto : Proto) (seen seconds : ℕ) → MayAlwaysBeIdle proto seconds → seconds ≤ timeout_by proto seen
 least-time Udp seen seconds least = omega (arith, least)
 least-time Tcp seen seconds least = omega (arith, least, least-phase (is_closing seen) (is_acknowledged seen))
 
-least-some : (proto : Proto) (seconds : ℕ) → MayAlwaysBeIdle proto seconds → 0 < seconds
-least-some Udp seconds least = omega (arith, least)
-least-some Tcp seconds least = omega (arith, least)
-
-alive-within : (now : ℕ) (t : Session) (seconds : ℕ) → 0 < seconds → seconds ≤ timeout_of t → now < t.last + seconds → alive now t ≡ true
-alive-within now t seconds some within before = lt-ltb _ _ (omega (arith, some, within, before))
+alive-within : (now : ℕ) (t : Session) (seconds : ℕ) → seconds ≤ timeout_of t → now < t.last + seconds → alive now t ≡ true
+alive-within now t seconds within before = lt-ltb _ _ (omega (arith, timeout-some t.proto t.seen, within, before))
 
 -- ---- over a step
 
-itself : (s : State) (t : Session) → In t s.sessions → GoesOn s t
+abbrev itself : (s : State) (t : Session) → In t s.sessions → GoesOn s t
 itself s t is = record { session = t; is_held = is; flow = (refl, refl, refl); outside = refl; last = omega arith }
 
+-- what goes on from a later state of it goes on from this one
+abbrev goes-further : (s : State) (t u : Session) → HasInside t.proto t.inside t.remote u → u.outside ≡ t.outside → t.last ≤ u.last → GoesOn s u → GoesOn s t
+goes-further s t u flow outside le on =
+    record { session = on.session; is_held = on.is_held; flow = (on.flow.0 ∙ flow.0, on.flow.1 ∙ flow.1, on.flow.2 ∙ flow.2); outside = on.outside ∙ outside; last = omega (arith, le, on.last) }
+
 as-went : (s : State) (t u : Session) (sender : Opener) (flags : Flags) (now : ℕ) → t.last ≤ now → In u s.sessions → WentOn t sender flags now u → GoesOn s t
-as-went s t u sender flags now le is (inl on) = record {
-  session = u;
-  is_held = is;
-  flow = (ap (λ (v : Session). v.proto) on.1, ap (λ (v : Session). v.inside) on.1, ap (λ (v : Session). v.remote) on.1);
-  outside = ap (λ (v : Session). v.outside) on.1;
-  last = subst (λ n. t.last ≤ n) (sym (ap (λ (v : Session). v.last) on.1)) le;
-}
-as-went s t u sender flags now le is (inr anew) = record {
-  session = u;
-  is_held = is;
-  flow = (ap (λ (v : Session). v.proto) anew.1, ap (λ (v : Session). v.inside) anew.1, ap (λ (v : Session). v.remote) anew.1);
-  outside = ap (λ (v : Session). v.outside) anew.1;
-  last = subst (λ n. t.last ≤ n) (sym (ap (λ (v : Session). v.last) anew.1)) le;
-}
+as-went s t u sender flags now le is (inl on) = let v = seen t (shown t.proto t.opener sender flags) now in goes-further s t v (refl, refl, refl) refl le (itself s v (subst (λ x. In x s.sessions) on.1 is))
+as-went s t u sender flags now le is (inr anew) = let v = restarted t sender now in goes-further s t v (refl, refl, refl) refl le (itself s v (subst (λ x. In x s.sessions) anew.1 is))
 
 goes-on : (config : Config) (s : State) (judged : Judged) (t : Session) → IsSoundState config s → In t s.sessions → alive (later s.clock judged.moment) t ≡ true → GoesOn (step config s judged).0 t
 goes-on config s judged t sound is lives =
@@ -98,22 +76,10 @@ begins-anew config s judged t u seconds sound is time over held flow =
 
 -- ---- over a run
 
-goes-further : (s : State) (t u : Session) → HasInside t.proto t.inside t.remote u → u.outside ≡ t.outside → t.last ≤ u.last → GoesOn s u → GoesOn s t
-goes-further s t u flow outside le on = record {
-  session = on.session;
-  is_held = on.is_held;
-  flow = (on.flow.0 ∙ flow.0, on.flow.1 ∙ flow.1, on.flow.2 ∙ flow.2);
-  outside = on.outside ∙ outside;
-  last = omega (arith, le, on.last);
-}
-
 module _ (config : Config) (is_one : is_config config ≡ true) where
   run-clock : (s : State) (events : List Event) (judged : List Judged) → AreJudged config events judged → IsSoundState config s → s.clock ≤ (after config s judged).clock
-  run-clock s [] [] are sound = omega arith
-  run-clock s [] (j ∷ more) are sound = absurd are
-  run-clock s (event ∷ events) [] are sound = absurd are
-  run-clock s (event ∷ events) (j ∷ more) are sound =
-      omega (arith, later-above s.clock j.moment, step-clock config is_one s j sound, run-clock (step config s j).0 events more are.1 (step-sound config is_one s j are.0.right sound))
+  run-clock s events judged are sound = run-keeps config is_one (λ at. s.clock ≤ at.clock)
+      (λ at j right before le. omega (arith, le, later-above at.clock j.moment, step-clock config is_one at j before)) s events judged are sound (omega arith)
 
   run-goes-on : (s : State) (events : List Event) (judged : List Judged) (t : Session) (seconds : ℕ) → AreJudged config events judged → IsSoundState config s → In t s.sessions → MayAlwaysBeIdle t.proto seconds
       → (after config s judged).clock < t.last + seconds → GoesOn (after config s judged) t
@@ -124,30 +90,14 @@ module _ (config : Config) (is_one : is_config config ≡ true) where
       let sound' = step-sound config is_one s j are.0.right sound in
       let until = run-clock (step config s j).0 events more are.1 sound' in
       let now_before : later s.clock j.moment < t.last + seconds = omega (arith, step-clock config is_one s j sound, until, before) in
-      let on = goes-on config s j t sound is (alive-within (later s.clock j.moment) t seconds (least-some t.proto seconds least) (least-time t.proto t.seen seconds least) now_before) in
+      let on = goes-on config s j t sound is (alive-within (later s.clock j.moment) t seconds (least-time t.proto t.seen seconds least) now_before) in
       goes-further (after config (step config s j).0 more) t on.session on.flow on.outside on.last
       (run-goes-on (step config s j).0 events more on.session seconds are.1 sound' on.is_held (subst (λ p. MayAlwaysBeIdle p seconds) (sym on.flow.0) least) (omega (arith, on.last, before)))
-
-  -- what goes on from a later state of it goes on from this one
-  further-established : (s : State) (t u : Session) → HasInside t.proto t.inside t.remote u → u.outside ≡ t.outside → t.last ≤ u.last → u.opener ≡ t.opener → GoesOnEstablished s u → GoesOnEstablished s t
-  further-established s t u flow outside le opener on =
-      let k = on.goes_on in
-      record {
-        goes_on = record {
-          session = k.session;
-          is_held = k.is_held;
-          flow = (k.flow.0 ∙ flow.0, k.flow.1 ∙ flow.1, k.flow.2 ∙ flow.2);
-          outside = k.outside ∙ outside;
-          last = omega (arith, le, k.last);
-        };
-        phase = on.phase;
-        opener = on.opener ∙ opener;
-      }
 
   run-established : (s : State) (events : List Event) (judged : List Judged) (t : Session) → AreJudged config events judged → IsSoundState config s → In t s.sessions → t.proto ≡ Tcp → phase_of t.seen ≡ Established
       → StaysOpen config s judged t → (after config s judged).clock < t.last + 7440 → GoesOnEstablished (after config s judged) t
   run-established s [] [] t are sound is tcp phase left_open before =
-      record { goes_on = record { session = t; is_held = is; flow = (refl, refl, refl); outside = refl; last = omega arith }; phase = phase; opener = refl }
+      record { goes_on = itself s t is; phase = phase; opener = refl }
   run-established s [] (j ∷ more) t are sound is tcp phase left_open before = absurd are
   run-established s (event ∷ events) [] t are sound is tcp phase left_open before = absurd are
   run-established s (event ∷ events) (j ∷ more) t are sound is tcp phase left_open before =
@@ -157,7 +107,7 @@ module _ (config : Config) (is_one : is_config config ≡ true) where
       let until = run-clock next events more are.1 sound' in
       let now_before : now < t.last + 7440 = omega (arith, step-clock config is_one s j sound, until, before) in
       let time = idle-time t 7440 (inr (inr (inl (tcp, phase, refl)))) in
-      let lives = alive-within now t 7440 (omega arith) (omega (arith, time)) now_before in
+      let lives = alive-within now t 7440 (omega (arith, time)) now_before in
       let le : t.last ≤ now = omega (arith, sound.latest t is, later-above s.clock j.moment) in
       elim (living-stay config s j t sound (filter-In (alive now) s.sessions t is lives)) [
         | inl held ↦ run-established next events more t are.1 sound' held tcp phase left_open.1 before
@@ -168,18 +118,16 @@ module _ (config : Config) (is_one : is_config config ≡ true) where
               let u = seen t bits now in
               let phase' : phase_of u.seen ≡ Established = subst (λ (proto : Proto). phase_of (bit_or t.seen (shown proto t.opener p.sender p.view.flags)) ≡ Established) (sym tcp)
               (established-on t.seen t.opener p.sender p.view.flags phase left.0 left.1) in
-              further-established (after config next more) t u (refl, refl, refl) refl le refl
-              (run-established next events more u are.1 sound' (subst (λ (v : Session). In v next.sessions) on.1 p.is_held) tcp phase' (stays-open config next more t bits now left_open.1) (omega (arith, le, before)))
+              let k = run-established next events more u are.1 sound' (subst (λ (v : Session). In v next.sessions) on.1 p.is_held) tcp phase' (stays-open config next more t bits now left_open.1) (omega (arith, le, before)) in
+              record { goes_on = goes-further (after config next more) t u (refl, refl, refl) refl le k.goes_on; phase = k.phase; opener = k.opener }
           | inr anew ↦ absurd (never-restarts t p.view.flags phase anew.0)
         ]
       ]
 
 pub live-their-time : SessionsLiveTheirTime
 live-their-time = record {
-  lives = λ config s judged t seconds sound is idle before.
-      let time = idle-time t seconds idle in
-      goes-on config s judged t sound is (alive-within (later s.clock judged.moment) t seconds (idle-some t seconds idle) (omega (arith, time)) before);
+  lives = λ config s judged t seconds sound is idle before. goes-on config s judged t sound is (alive-within (later s.clock judged.moment) t seconds (omega (arith, idle-time t seconds idle)) before);
   ends = λ config s judged t u seconds sound is idle over held flow. begins-anew config s judged t u seconds sound is (idle-time t seconds idle) over held flow;
-  runs = λ config s events judged t seconds is_one are sound is least before. run-goes-on config is_one s events judged t seconds are sound is least before;
-  established = λ config s events judged t is_one are sound is tcp phase left_open before. run-established config is_one s events judged t are sound is tcp phase left_open before;
+  runs = λ config s events judged t seconds is_one. run-goes-on config is_one s events judged t seconds;
+  established = λ config s events judged t is_one. run-established config is_one s events judged t;
 }

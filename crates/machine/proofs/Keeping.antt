@@ -9,8 +9,7 @@ use Rattle.packet.specs.declared.endpoint.Endpoint.{Endpoint}
 use Rattle.packet.specs.declared.endpoint.Iface.TheVariants.{Lan, Wan}
 use Rattle.packet.specs.declared.endpoint.Proto.{Proto}
 use Rattle.packet.specs.declared.route.Route.{Route}
-use Rattle.packet.specs.declared.route.Route.TheVariants.{Out, Hairpin}
-use Rattle.packet.specs.declared.route.Route.TheVariants.{In as InRoute}
+use Rattle.packet.specs.declared.route.Route.TheVariants.{Out, Hairpin, In as InRoute}
 use Rattle.packet.specs.declared.view.View.{View}
 use Rattle.packet.proofs.Routes.{routed_is_on_route}
 use Rattle.portpick.specs.Choice.{after, port_choice}
@@ -47,10 +46,8 @@ use Rattle.machine.proofs.Soundness.{external-is, put_all-member}
 
 -- the nearest free port is the port itself, if it is free
 own-nearest : (port chosen steps : ℕ) → chosen ≡ after steps port → (0 < steps → ⊥) → chosen ≡ port
-own-nearest port chosen steps reached first = elim (cases_lt 0 steps) [
-  | inl lt ↦ absurd (first lt)
-  | inr le ↦ let none : steps ≡ 0 = omega (arith, le) in reached ∙ ap (λ n. after n port) none
-]
+own-nearest port chosen steps reached first =
+    elim (cases_lt 0 steps) [ inl lt ↦ absurd (first lt) | inr le ↦ let none : steps ≡ 0 = omega (arith, le) in reached ∙ ap (λ n. after n port) none ]
 
 module _ (sessions : List Session) (proto : Proto) (port : ℕ) (some : 0 < port) (fits : port < 2 ^ 16) where
   pub keeps-port : (outside : Endpoint) → port_choice (is_taken sessions proto outside.addr) port ≡ Some outside.port → KeepsPort sessions proto port outside
@@ -106,22 +103,13 @@ module _ (config : Config) (s : State) (judged : Judged) (bytes : List ℕ) (vie
   some : 0 < view.src.port
   some = (ports_are_some bytes view m.came.fields_are).0
 
-  -- a session of the new mapping
-  record IsOfIt (w : Session) : Type 0 where
-    pub translated : w.inside ≢ w.outside
-    pub proto : w.proto ≡ view.proto
-    pub inside : w.inside ≡ view.src
-    pub outside_is : w.outside ≡ outside
+  -- the session of the new mapping is no old one
+  abbrev w : Session
+  w = m.mapped.session
 
-  not-old : (w u : Session) → IsOfIt w → In u held → u.proto ≡ w.proto → u.inside ≡ w.inside → u.outside ≡ w.outside → ⊥
-  not-old w u is old p i o = m.unmapped outside (record {
-    session = u;
-    is_held = old;
-    translated = λ e. is.translated (sym i ∙ e ∙ o);
-    proto = p ∙ is.proto;
-    inside = i ∙ is.inside;
-    outside = o ∙ is.outside_is;
-  })
+  not-old : (u : Session) → In u held → u.proto ≡ w.proto → u.inside ≡ w.inside → u.outside ≡ w.outside → ⊥
+  not-old u old p i o = m.unmapped outside
+      (record { session = u; is_held = old; translated = λ e. m.mapped.translated (sym i ∙ e ∙ o); proto = p ∙ m.mapped.proto; inside = i ∙ m.mapped.inside; outside = o ∙ m.mapped.outside })
 
   -- ---- out
 
@@ -137,20 +125,17 @@ module _ (config : Config) (s : State) (judged : Judged) (bytes : List ℕ) (vie
       keeps-port held view.proto view.src.port some m.port o (choice_is_listed uses taken config.external view.src.port o (port-ok (pool_choice uses taken config.external view.src.port) o h)).1
   keeps-source source.Drop o away h = absurd (err-ok Rule o h)
 
-  keeps-out : (p : Passage) → out_leg config s.rules held now view ≡ Ok p → (w : Session) → In w p.sessions → IsOfIt w → Keeps
-  keeps-out p h w is it = elim (out-told config s.rules held now view p h) [
+  keeps-out : (p : Passage) → out_leg config s.rules held now view ≡ Ok p → In w p.sessions → Keeps
+  keeps-out p h is = elim (out-told config s.rules held now view p h) [
     | inl on ↦ absurd (none-some on.0 (sym none ∙ on.1))
-    | inr begun ↦
-        let o = begun.2.0 in
-        let t = new_out config s.rules held now view o in
-        elim (subst (λ (q : Passage). In w q.sessions) begun.2.2 is) [
-          | inl e ↦
-              let same : o ≡ outside = ap (λ (v : Session). v.outside) (sym e) ∙ it.outside_is in
-              let away : view.src ≢ o = λ same'. it.translated (ap (λ (v : Session). v.inside) e ∙ same' ∙ ap (λ (v : Session). v.outside) (sym e)) in
-              subst (KeepsPort held view.proto view.src.port) same
-              (keeps-source how o away (sym (ap (outside_for config s.rules held now view) unmapped) ∙ begun.2.1))
-          | inr no_more ↦ absurd no_more
-        ]
+    | inr begun ↦ elim (subst (λ (q : Passage). In w q.sessions) begun.2.2 is) [
+      | inl e ↦
+          let same : begun.2.0 ≡ outside = ap (λ (v : Session). v.outside) (sym e) ∙ m.mapped.outside in
+          let away : view.src ≢ begun.2.0 = λ same'. m.mapped.translated (ap (λ (v : Session). v.inside) e ∙ same' ∙ ap (λ (v : Session). v.outside) (sym e)) in
+          subst (KeepsPort held view.proto view.src.port) same
+          (keeps-source how begun.2.0 away (sym (ap (outside_for config s.rules held now view) unmapped) ∙ begun.2.1))
+      | inr no_more ↦ absurd no_more
+    ]
   ]
 
   -- ---- hairpin
@@ -169,70 +154,53 @@ module _ (config : Config) (s : State) (judged : Judged) (bytes : List ℕ) (vie
         let choice = port-ok (near_choice uses taken config.external view.dst.addr view.src.port) o (sym (ap (outside_near config s.rules held now view) unmapped) ∙ begun.2.1) in
         (o, begun.2.2, near-listed uses taken config.external view.src.port view.dst.addr o at choice, keeps-near held view.proto view.src.port some m.port config.external uses view.dst.addr o choice)
 
-    keeps-both : (p : Passage) → hairpin_leg config s.rules held now view ≡ Ok p → (w : Session) → In w p.sessions → IsOfIt w → Keeps
-    keeps-both p h w is it =
+    keeps-both : (p : Passage) → hairpin_leg config s.rules held now view ≡ Ok p → In w p.sessions → Keeps
+    keeps-both p h is =
         let both = hairpin-told config s.rules held now view p h in
         let first = both.first in
         let near = first-near first both.by_first in
-        let o = near.0 in
         let away : first.outside ≢ view.dst = apart-from first.outside view.dst both.away in
         let translated : first.inside ≢ first.outside = λ e.
-        outside_away config is_one o.addr near.2
+        outside_away config is_one near.0.addr near.2
         (subst (λ (x : Endpoint). is_inside config x.addr ≡ true) (sym (ap (λ (v : Session). v.inside) near.1) ∙ e ∙ ap (λ (v : Session). v.outside) near.1) inside) in
         elim (subst (λ (q : Passage). In w q.sessions) both.are is) [
-          | inl e ↦ subst (KeepsPort held view.proto view.src.port) (sym (ap (λ (v : Session). v.outside) near.1) ∙ ap (λ (v : Session). v.outside) (sym e) ∙ it.outside_is) near.3
-          | inr behind ↦ elim behind [
-            | inl e ↦ elim both.by_far [
-              | inl on ↦
-                  let u = on.0 in
-                  let keys = passed-keys u Remote view.flags now in
-                  let found = find-In (has_outside view.proto view.dst first.outside) (put first held) u on.1 in
-                  let has = has_outside-true view.proto view.dst first.outside u found.1 in
-                  let same = sym on.2 ∙ sym e in
-                  elim (put_all-member (first ∷ []) held u found.0) [
-                    | inl among ↦ elim among [
-                      | inl one ↦ absurd (away (ap (λ (v : Session). v.outside) (sym one) ∙ has.1))
-                      | inr no_more ↦ absurd no_more
-                    ]
-                    | inr old ↦ absurd (not-old w u it old (keys.proto ∙ ap (λ (v : Session). v.proto) same) (keys.inside ∙ ap (λ (v : Session). v.inside) same) (keys.outside ∙ ap (λ (v : Session). v.outside) same))
-                  ]
-              | inr begun ↦
-                  let x = begun.2.0 in
-                  let t = new_far config s.rules held now view first (put first held) x in
-                  let is_t : w ≡ t = e ∙ begun.2.3 in
-                  let own : t.inside ≡ first.inside = ap (λ (v : Session). v.inside) (sym is_t) ∙ it.inside ∙ sym (ap (λ (v : Session). v.inside) near.1) in
-                  let clash : Clashing t first = inr (inr (
-                    (λ e'. it.translated (ap (λ (v : Session). v.inside) is_t ∙ e' ∙ ap (λ (v : Session). v.outside) (sym is_t))),
-                    translated,
-                    sym (ap (λ (v : Session). v.proto) near.1),
-                    inl (own, (λ e'. away (sym e'))),
-                  )) in
-                  absurd (no_clash t (put first held) begun.2.2 first (put-In first held) clash)
-            ]
-            | inr no_more ↦ absurd no_more
+          | inl e ↦ subst (KeepsPort held view.proto view.src.port) (sym (ap (λ (v : Session). v.outside) near.1) ∙ ap (λ (v : Session). v.outside) (sym e) ∙ m.mapped.outside) near.3
+          | inr (inl e) ↦ elim both.by_far [
+            | inl on ↦
+                let u = on.0 in
+                let keys = passed-keys u Remote view.flags now in
+                let found = find-In (has_outside view.proto view.dst first.outside) (put first held) u on.1 in
+                let has = has_outside-true view.proto view.dst first.outside u found.1 in
+                let same = sym on.2 ∙ sym e in
+                elim (put_all-member (first ∷ []) held u found.0) [
+                  | inl (inl one) ↦ absurd (away (ap (λ (v : Session). v.outside) (sym one) ∙ has.1))
+                  | inl (inr no_more) ↦ absurd no_more
+                  | inr old ↦ absurd (not-old u old (keys.proto ∙ ap (λ (v : Session). v.proto) same) (keys.inside ∙ ap (λ (v : Session). v.inside) same) (keys.outside ∙ ap (λ (v : Session). v.outside) same))
+                ]
+            | inr begun ↦
+                let t = new_far config s.rules held now view first (put first held) begun.2.0 in
+                let is_t : w ≡ t = e ∙ begun.2.3 in
+                let own : t.inside ≡ first.inside = ap (λ (v : Session). v.inside) (sym is_t) ∙ m.mapped.inside ∙ sym (ap (λ (v : Session). v.inside) near.1) in
+                let there : t.inside ≢ t.outside = λ e'. m.mapped.translated (ap (λ (v : Session). v.inside) is_t ∙ e' ∙ ap (λ (v : Session). v.outside) (sym is_t)) in
+                let clash : Clashing t first = inr (inr (there, translated, sym (ap (λ (v : Session). v.proto) near.1), inl (own, (λ e'. away (sym e'))))) in
+                absurd (no_clash t (put first held) begun.2.2 first (put-In first held) clash)
           ]
+          | inr (inr no_more) ↦ absurd no_more
         ]
 
-  keeps-leg : (r' : Route) → r ≡ r' → (p : Passage) → leg config live view r' ≡ Ok p → (w : Session) → In w p.sessions → IsOfIt w → Keeps
-  keeps-leg Out e p h w is it = keeps-out p h w is it
-  keeps-leg Hairpin e p h w is it =
-      let there = routed_is_on_route config Lan view Hairpin (m.came.route_is ∙ ap Ok e) in
-      keeps-both there.1.1 (external-is config view.dst.addr there.1.2) p h w is it
-  keeps-leg InRoute e p h w is it = let side : Lan ≡ Wan = (routed_is_on_route config Lan view InRoute (m.came.route_is ∙ ap Ok e)).1.0 in absurd cc
+  keeps-leg : (r' : Route) → r ≡ r' → (p : Passage) → leg config live view r' ≡ Ok p → In w p.sessions → Keeps
+  keeps-leg Out e p h is = keeps-out p h is
+  keeps-leg Hairpin e p h is =
+      let there = (routed_is_on_route config Lan view Hairpin (m.came.route_is ∙ ap Ok e)).1 in
+      keeps-both there.1 (external-is config view.dst.addr there.2) p h is
+  keeps-leg InRoute e p h is = let side : Lan ≡ Wan = (routed_is_on_route config Lan view InRoute (m.came.route_is ∙ ap Ok e)).1.0 in absurd cc
 
-  it-is : IsOfIt m.mapped.session
-  it-is = record { translated = m.mapped.translated; proto = m.mapped.proto; inside = m.mapped.inside; outside_is = m.mapped.outside }
-
-  keeps-sent : (way : Result Passage Cause) → leg config live view r ≡ way → In m.mapped.session (sent live bytes way).0.sessions → Keeps
-  keeps-sent (Err cause) h is = absurd (not-old m.mapped.session m.mapped.session it-is is refl refl refl)
-  keeps-sent (Ok p) h is = elim (put_all-member p.sessions held m.mapped.session is) [
-    | inl made ↦ keeps-leg r refl p h m.mapped.session made it-is
-    | inr old ↦ absurd (not-old m.mapped.session m.mapped.session it-is old refl refl refl)
-  ]
+  keeps-sent : (way : Result Passage Cause) → leg config live view r ≡ way → In w (sent live bytes way).0.sessions → Keeps
+  keeps-sent (Err cause) h is = absurd (not-old w is refl refl refl)
+  keeps-sent (Ok p) h is = elim (put_all-member p.sessions held w is) [ inl made ↦ keeps-leg r refl p h made | inr old ↦ absurd (not-old w old refl refl refl) ]
 
   pub mapping-keeps : Keeps
-  mapping-keeps = keeps-sent (leg config live view r) refl
-      (subst (λ (p : State × Answer). In m.mapped.session p.0.sessions) (step-of config s judged Lan bytes view r m.came) m.mapped.is_held)
+  mapping-keeps = keeps-sent (leg config live view r) refl (subst (λ (p : State × Answer). In w p.0.sessions) (step-of config s judged Lan bytes view r m.came) m.mapped.is_held)
 
 pub new-mappings-keep : NewMappingsKeepPorts
 new-mappings-keep config s judged bytes view r outside is_one makes = mapping-keeps config s judged bytes view r outside is_one makes

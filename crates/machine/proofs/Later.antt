@@ -21,19 +21,15 @@ use Rattle.machine.specs.Flows.{adds, adds_second}
 module _ (old new : List (Option Session)) (slot : ℕ) (t : Session) (apart : Apart old) (is : get_or new slot None ≡ Some t)
     (others : (k : ℕ) → k ≢ slot → get_or new k None ≡ get_or old k None)
     (away : (k : ℕ) (s : Session) → k ≢ slot → get_or old k None ≡ Some s → key s ≢ key t) where
+  other-key : (k : ℕ) (s : Session) → k ≢ slot → get_or new k None ≡ Some s → (u : Session) (i : ℕ) → i ≡ slot → get_or new i None ≡ Some u → key s ≢ key u
+  other-key k s k_away at_k u i i_is at_i e = away k s k_away (sym (others k k_away) ∙ at_k) (e ∙ ap key (same_Some u t (sym at_i ∙ ap (λ j. get_or new j None) i_is ∙ is)))
+
   pub later-apart : Apart new
   later-apart = record {
     keys = λ i j u v differ at_i at_j. elim (cases_eq i slot) [
-      | inl i_is ↦ elim (cases_eq j slot) [
-        | inl j_is ↦ absurd (differ (i_is ∙ sym j_is))
-        | inr j_away ↦
-            let u_is : u ≡ t = same_Some u t (sym at_i ∙ ap (λ k. get_or new k None) i_is ∙ is) in
-            λ e. away j v j_away (sym (others j j_away) ∙ at_j) (sym e ∙ ap key u_is)
-      ]
+      | inl i_is ↦ elim (cases_eq j slot) [ inl j_is ↦ absurd (differ (i_is ∙ sym j_is)) | inr j_away ↦ λ e. other-key j v j_away at_j u i i_is at_i (sym e) ]
       | inr i_away ↦ elim (cases_eq j slot) [
-        | inl j_is ↦
-            let v_is : v ≡ t = same_Some v t (sym at_j ∙ ap (λ k. get_or new k None) j_is ∙ is) in
-            λ e. away i u i_away (sym (others i i_away) ∙ at_i) (e ∙ ap key v_is)
+        | inl j_is ↦ other-key i u i_away at_i v j j_is at_j
         | inr j_away ↦ apart.keys i j u v differ (sym (others i i_away) ∙ at_i) (sym (others j j_away) ∙ at_j)
       ]
     ];
@@ -68,10 +64,7 @@ begun-later external held now s t same apart may =
 -- the session of a slot goes on, under its own key
 module _ (held : List (Option Session)) (slot : ℕ) (s t : Session) (at : get_or held slot None ≡ Some s) (same : key s ≡ key t) (apart : Apart held) where
   within : slot < length held
-  within = elim (cases_lt slot (length held)) [
-    | inl lt ↦ lt
-    | inr le ↦ absurd (none-some s (sym (get_or_past held slot None le) ∙ at))
-  ]
+  within = elim (cases_lt slot (length held)) [ inl lt ↦ lt | inr le ↦ absurd (none-some s (sym (get_or_past held slot None le) ∙ at)) ]
 
   abbrev later_held : List (Option Session)
   later_held = set held slot (Some t)

@@ -1,5 +1,5 @@
 -- No step ends a session that is alive.
-use Rattle.std.proofs.Common.{◌≡◌, ◌⊎◌, ℕ, List, Result, Ok, Err, if◌then◌else◌, refl, sym, ap, ◌∙◌, subst, inl, inr}
+use Rattle.std.proofs.Common.{◌≡◌, ◌⊎◌, ℕ, List, Ok, if◌then◌else◌, refl, sym, ap, ◌∙◌, subst, inl, inr}
 use Rattle.std.proofs.lemmas.Bool.{cases_Bool}
 use Rattle.packet.specs.Config.{Config}
 use Rattle.packet.specs.Fields.{fields}
@@ -7,11 +7,8 @@ use Rattle.packet.specs.Route.{route}
 use Rattle.packet.specs.Translated.{translated}
 use Rattle.packet.specs.declared.endpoint.Flags.{Flags}
 use Rattle.packet.specs.declared.endpoint.Iface.{Iface}
-use Rattle.packet.specs.declared.fault.Fault.{Fault}
 use Rattle.packet.specs.declared.route.Route.{Route}
-use Rattle.packet.specs.declared.route.Route.TheVariants.{Out, Hairpin}
-use Rattle.packet.specs.declared.route.Route.TheVariants.{In as InRoute}
-use Rattle.packet.specs.declared.route.RouteFault.{RouteFault}
+use Rattle.packet.specs.declared.route.Route.TheVariants.{Out, Hairpin, In as InRoute}
 use Rattle.packet.specs.declared.view.View.{View}
 use Rattle.sessions.specs.Life.{alive, restarts, shown}
 use Rattle.sessions.specs.Listing.{In, Rises, has_inside, has_outside, key, put, same_flow}
@@ -23,13 +20,12 @@ use Rattle.sessions.proofs.Found.{has_outside-true}
 use Rattle.sessions.proofs.Puts.{flow-keys, has_inside-true}
 use Rattle.sessions.proofs.Sets.{Rises-filter, same_key}
 use Rattle.hairpin.specs.Legs.{Passage, hairpin_leg, in_leg, out_leg, passed_by, put_all}
-use Rattle.hairpin.specs.declared.cause.Cause.{Cause}
 use Rattle.hairpin.proofs.Apart.{find-In}
 use Rattle.hairpin.proofs.Clashing.{no_clash}
 use Rattle.hairpin.proofs.Doubling.{Rises-put, passed-flow, put-In}
 use Rattle.machine.specs.Judged.{Judged}
 use Rattle.machine.specs.Laws.{living}
-use Rattle.machine.specs.Machine.{State, act, later, leg, on_route, sent, step, with_fields}
+use Rattle.machine.specs.Machine.{State, act, later, leg, step}
 use Rattle.machine.specs.Requirements.{IsOf, LivingSessionsStay, WentOn}
 use Rattle.machine.specs.declared.deed.Deed.{Deed}
 use Rattle.machine.specs.declared.deed.Deed.TheVariants as deed
@@ -39,6 +35,7 @@ use Rattle.machine.proofs.Called.{not-found}
 use Rattle.machine.proofs.Passages.{FirstBegins, FirstGoesOn, SecondBegins, SecondGoesOn, hairpin-told, in-told, new_far, new_in, new_out, out-told}
 use Rattle.machine.proofs.Passing.{one-of-flow}
 use Rattle.machine.proofs.Refreshing.{apart-flows, first-used, put-stays, second-used}
+use Rattle.machine.proofs.Soundness.{done-by}
 
 -- a session that goes on
 went : (s : Session) (sender : Opener) (flags : Flags) (now : ℕ) → WentOn s sender flags now (passed_by s sender flags now)
@@ -49,10 +46,7 @@ went s sender flags now = elim (cases_Bool (restarts s flags)) [
 
 -- where a session is put in, another stays, unless it is of the same flow
 stays-or : (t u : Session) (sessions : List Session) → In u sessions → In u (put t sessions) ⊎ (key u ≡ key t)
-stays-or t u sessions is = elim (cases_Bool (same_flow t u)) [
-  | inl same ↦ inr (flow-keys t u same)
-  | inr other ↦ inl (put-stays t u sessions is other)
-]
+stays-or t u sessions is = elim (cases_Bool (same_flow t u)) [ inl same ↦ inr (flow-keys t u same) | inr other ↦ inl (put-stays t u sessions is other) ]
 
 module _ (config : Config) (live : State) (rises : Rises live.sessions) (u : Session) (in_u : In u live.sessions) where
   abbrev sessions : List Session
@@ -80,54 +74,40 @@ module _ (config : Config) (live : State) (rises : Rises live.sessions) (u : Ses
         subst (WentOn u sender view.flags now) (sym e)
         (subst (λ (v : Session). WentOn v sender view.flags now (passed_by s sender view.flags now)) (sym it) (went s sender view.flags now))
 
-    -- ---- out
+    -- where one that goes on is put in, and where one begins
+    lasts-on : (r : Route) (sender : Opener) (s : Session) → In s sessions → IsOf (put (passed_by s sender view.flags now) sessions) view r sender s → Lasts r (put (passed_by s sender view.flags now) sessions)
+    lasts-on r sender s in_s of =
+        let t = passed_by s sender view.flags now in
+        elim (stays-or t u sessions in_u) [
+          | inl held ↦ inl held
+          | inr same ↦
+              let it = is-it sessions rises in_u s sender in_s same in
+              inr (sender, subst (IsOf (put t sessions) view r sender) (sym it) of, (t, put-In t sessions, went-as s t sender it refl))
+        ]
+
+    lasts-begun : (r : Route) (t : Session) → (key u ≡ key t → ⊥) → Lasts r (put t sessions)
+    lasts-begun r t other = elim (stays-or t u sessions in_u) [ inl held ↦ inl held | inr same ↦ absurd (other same) ]
 
     lasts-out : (p : Passage) → out_leg config live.rules sessions now view ≡ Ok p → Lasts Out (put_all p.sessions sessions)
     lasts-out p h = elim (out-told config live.rules sessions now view p h) [
       | inl on ↦
-          let s = on.0 in
-          let t = passed_by s Inside view.flags now in
-          let found = find-In (has_inside view.proto view.src view.dst) sessions s on.1 in
-          let has = has_inside-true view.proto view.src view.dst s found.1 in
-          let kept : Lasts Out (put t sessions) = elim (stays-or t u sessions in_u) [
-            | inl held ↦ inl held
-            | inr same ↦
-                let it = is-it sessions rises in_u s Inside found.0 same in
-                inr (Inside, subst (HasInside view.proto view.src view.dst) (sym it) has, (t, put-In t sessions, went-as s t Inside it refl))
-          ] in
-          subst (λ (q : Passage). Lasts Out (put_all q.sessions sessions)) (sym on.2) kept
+          let found = find-In (has_inside view.proto view.src view.dst) sessions on.0 on.1 in
+          subst (λ (q : Passage). Lasts Out (put_all q.sessions sessions)) (sym on.2) (lasts-on Out Inside on.0 found.0 (has_inside-true view.proto view.src view.dst on.0 found.1))
       | inr begun ↦
           let t = new_out config live.rules sessions now view begun.2.0 in
-          let kept : Lasts Out (put t sessions) = elim (stays-or t u sessions in_u) [
-            | inl held ↦ inl held
-            | inr same ↦ absurd (not-found view.proto view.src view.dst sessions begun.0 u in_u (same_key t u (sym same)))
-          ] in
-          subst (λ (q : Passage). Lasts Out (put_all q.sessions sessions)) (sym begun.2.2) kept
+          subst (λ (q : Passage). Lasts Out (put_all q.sessions sessions)) (sym begun.2.2)
+          (lasts-begun Out t (λ same. not-found view.proto view.src view.dst sessions begun.0 u in_u (same_key t u (sym same))))
     ]
-
-    -- ---- in
 
     lasts-in : (p : Passage) → in_leg config live.rules sessions now view ≡ Ok p → Lasts InRoute (put_all p.sessions sessions)
     lasts-in p h = elim (in-told config live.rules sessions now view p h) [
       | inl on ↦
-          let s = on.0 in
-          let t = passed_by s Remote view.flags now in
-          let found = find-In (has_outside view.proto view.dst view.src) sessions s on.1 in
-          let has = has_outside-true view.proto view.dst view.src s found.1 in
-          let kept : Lasts InRoute (put t sessions) = elim (stays-or t u sessions in_u) [
-            | inl held ↦ inl held
-            | inr same ↦
-                let it = is-it sessions rises in_u s Remote found.0 same in
-                inr (Remote, subst (HasOutside view.proto view.dst view.src) (sym it) has, (t, put-In t sessions, went-as s t Remote it refl))
-          ] in
-          subst (λ (q : Passage). Lasts InRoute (put_all q.sessions sessions)) (sym on.2) kept
+          let found = find-In (has_outside view.proto view.dst view.src) sessions on.0 on.1 in
+          subst (λ (q : Passage). Lasts InRoute (put_all q.sessions sessions)) (sym on.2) (lasts-on InRoute Remote on.0 found.0 (has_outside-true view.proto view.dst view.src on.0 found.1))
       | inr begun ↦
           let t = new_in config live.rules sessions now view begun.2.0 in
-          let kept : Lasts InRoute (put t sessions) = elim (stays-or t u sessions in_u) [
-            | inl held ↦ inl held
-            | inr same ↦ absurd (no_clash t sessions begun.2.4 u in_u (inl (same_key t u (sym same))))
-          ] in
-          subst (λ (q : Passage). Lasts InRoute (put_all q.sessions sessions)) (sym begun.2.3) kept
+          subst (λ (q : Passage). Lasts InRoute (put_all q.sessions sessions)) (sym begun.2.3)
+          (lasts-begun InRoute t (λ same. no_clash t sessions begun.2.4 u in_u (inl (same_key t u (sym same)))))
     ]
 
     -- ---- both
@@ -139,11 +119,9 @@ module _ (config : Config) (live : State) (rises : Rises live.sessions) (u : Ses
       -- it is the session that the packet goes out by
       by-first : FirstGoesOn config live.rules sessions now view first ⊎ FirstBegins config live.rules sessions now view first → key u ≡ key first → Lasts Hairpin all
       by-first (inl on) same =
-          let s = on.0 in
-          let found = find-In (has_inside view.proto view.src view.dst) sessions s on.1 in
-          let has = has_inside-true view.proto view.src view.dst s found.1 in
-          let it = is-it sessions rises in_u s Inside found.0 (same ∙ ap key on.2) in
-          inr (Inside, subst (HasInside view.proto view.src view.dst) (sym it) has, (first, held, went-as s first Inside it on.2))
+          let found = find-In (has_inside view.proto view.src view.dst) sessions on.0 on.1 in
+          let it = is-it sessions rises in_u on.0 Inside found.0 (same ∙ ap key on.2) in
+          inr (Inside, subst (HasInside view.proto view.src view.dst) (sym it) (has_inside-true view.proto view.src view.dst on.0 found.1), (first, held, went-as on.0 first Inside it on.2))
       by-first (inr begun) same =
           let t = new_out config live.rules sessions now view begun.2.0 in
           absurd (not-found view.proto view.src view.dst sessions begun.0 u in_u (same_key t u (sym (same ∙ ap key begun.2.2))))
@@ -172,53 +150,30 @@ module _ (config : Config) (live : State) (rises : Rises live.sessions) (u : Ses
         let held = put-stays far first (put first sessions) (put-In first sessions) (apart-flows config live view first far is behind both.away) in
         let goes_out : HasInside view.proto view.src view.dst first = (is.0, is.1, is.2) in
         let kept : Lasts Hairpin (put far (put first sessions)) = elim (stays-or first u sessions in_u) [
-          | inl near ↦ elim (stays-or far u (put first sessions) near) [
-            | inl still ↦ inl still
-            | inr same ↦ by-far first far held goes_out both.by_far near same
-          ]
+          | inl near ↦ elim (stays-or far u (put first sessions) near) [ inl still ↦ inl still | inr same ↦ by-far first far held goes_out both.by_far near same ]
           | inr same ↦ by-first first far held goes_out both.by_first same
         ] in
         subst (λ (q : Passage). Lasts Hairpin (put_all q.sessions sessions)) (sym both.are) kept
 
     lasts : (r : Route) (p : Passage) → leg config live view r ≡ Ok p → Lasts r (put_all p.sessions sessions)
-    lasts Out p h = lasts-out p h
-    lasts InRoute p h = lasts-in p h
-    lasts Hairpin p h = lasts-both p h
+    lasts Out = lasts-out
+    lasts InRoute = lasts-in
+    lasts Hairpin = lasts-both
 
   -- ---- whatever is done
 
-  abbrev Passed : Deed → State × Answer → Type 0
-  Passed d done = (iface : Iface) × (bytes : List ℕ) × (view : View) × (r : Route)
-      × (d ≡ deed.Packet iface bytes) × (fields bytes ≡ Ok view) × (route config iface view ≡ Ok r)
-      × (out : Iface) × (packet : List ℕ) × (done.1 ≡ Forward out packet) × Goes view r done.0.sessions
-
   abbrev Stays : Deed → State × Answer → Type 0
-  Stays d done = In u done.0.sessions ⊎ Passed d done
-
-  module _ (iface : Iface) (bytes : List ℕ) where
-    abbrev d : Deed
-    d = deed.Packet iface bytes
-
-    sent-stays : (view : View) → fields bytes ≡ Ok view → (r : Route) → route config iface view ≡ Ok r → (way : Result Passage Cause) → leg config live view r ≡ way → Stays d (sent live bytes way)
-    sent-stays view fields_are r route_is (Err cause) h = inl in_u
-    sent-stays view fields_are r route_is (Ok p) h = elim (lasts view r p h) [
-      | inl held ↦ inl held
-      | inr goes ↦ inr (iface, bytes, view, r, refl, fields_are, route_is, p.iface, translated bytes p.src p.dst, refl, goes)
-    ]
-
-    route-stays : (view : View) → fields bytes ≡ Ok view → (r : Result Route RouteFault) → route config iface view ≡ r → Stays d (on_route config live bytes view r)
-    route-stays view fields_are (Err fault) route_is = inl in_u
-    route-stays view fields_are (Ok r) route_is = sent-stays view fields_are r route_is (leg config live view r) refl
-
-    fields-stay : (f : Result View Fault) → fields bytes ≡ f → Stays d (with_fields config live iface bytes f)
-    fields-stay (Err fault) fields_are = inl in_u
-    fields-stay (Ok view) fields_are = route-stays view fields_are (route config iface view) refl
+  Stays d done = In u done.0.sessions ⊎ ((iface : Iface) × (bytes : List ℕ) × (view : View) × (r : Route)
+      × (d ≡ deed.Packet iface bytes) × (fields bytes ≡ Ok view) × (route config iface view ≡ Ok r)
+      × (out : Iface) × (packet : List ℕ) × (done.1 ≡ Forward out packet) × Goes view r done.0.sessions)
 
   act-stays : (d : Deed) → Stays d (act config live d)
-  act-stays (deed.Take text rules) = inl in_u
-  act-stays (deed.Refuse text) = inl in_u
-  act-stays (deed.Packet iface bytes) = fields-stay iface bytes (fields bytes) refl
-  act-stays deed.Moment = inl in_u
+  act-stays d = done-by config live d (Stays d) (λ a. inl in_u) (λ text rules e. inl in_u)
+      (λ iface bytes view r deed_is fields_are route_is p h. elim (lasts view r p h) [
+        | inl held ↦ inl held
+        | inr goes ↦ inr (iface, bytes, view, r, deed_is, fields_are, route_is, p.iface, translated bytes p.src p.dst, refl, goes)
+      ])
+      d refl
 
 step-stays : (config : Config) (s : State) (judged : Judged) (rises : Rises (living s judged).sessions) (u : Session) (in_u : In u (living s judged).sessions) → Stays config (living s judged) rises u in_u judged.deed (step config s judged)
 unfolding step

@@ -19,7 +19,7 @@ use Rattle.hairpin.specs.declared.plan.Plan.{Plan}
 use Rattle.durable.specs.Coding.{Restart, Seen}
 use Rattle.durable.specs.Entering.{flow_of}
 use Rattle.machine.specs.Noted.{between, goes_on, is_unchanged, entries_for_all}
-use Rattle.machine.proofs.Telling.{cons≢nil, seen-told}
+use Rattle.machine.proofs.Telling.{cons≢nil, made-told}
 
 same_side-itself : (side : Opener) → same_side side side ≡ true
 same_side-itself Inside = refl
@@ -49,7 +49,7 @@ module _ (external : Pool) (held : List (Option Session)) (now : ℕ) (g : Going
   given-told : (s : Session) × (get_or held g.slot None ≡ Some s) × (entries_for_all ts (listing held) ≡ between s (seen s g.bits now))
   given-told =
       let given = gives.1 in
-      let told = seen-told held (Apart-sound held sound) external now g.slot g.bits given.0 gives.0 given.1 given in
+      let told = made-told held (Apart-sound held sound) (λ s. seen s g.bits now) (λ s. refl) g.slot given.0 gives.0 given.1 given.0 given.1 given.3 in
       (given.0, given.1, ap (λ us. entries_for_all us (listing held)) gives.2 ∙ append-nil _ ∙ sym told)
 
   pub quiet-gives : ((s : Session) → get_or held g.slot None ≡ Some s → bit_or s.seen g.bits ≡ s.seen) → entries_for_all ts (listing held) ≡ []

@@ -1,6 +1,7 @@
 -- A packet that passes leaves by its session, and refreshes it.
-use Rattle.std.proofs.Common.{◌≡◌, ◌⊎◌, ℕ, List, Ok, true, false, not, refl, sym, ap, ◌∙◌, subst, inl, inr}
+use Rattle.std.proofs.Common.{◌≡◌, ◌⊎◌, ℕ, List, Some, Ok, true, false, not, refl, sym, ap, ◌∙◌, subst, inl, inr}
 use Rattle.std.specs.List.{filter}
+use Rattle.std.specs.Prelude.{find}
 use Rattle.std.proofs.lemmas.Bool.{false≢true, false_from_ne_true}
 use Rattle.packet.proofs.SameLemmas.{same_endpoint-itself}
 use Rattle.packet.specs.Config.{Config}
@@ -9,11 +10,9 @@ use Rattle.packet.specs.Translated.{translated}
 use Rattle.packet.specs.declared.endpoint.Endpoint.{Endpoint}
 use Rattle.packet.specs.declared.endpoint.Iface.{Iface}
 use Rattle.packet.specs.declared.route.Route.{Route}
-use Rattle.packet.specs.declared.route.Route.TheVariants.{Out, Hairpin}
-use Rattle.packet.specs.declared.route.Route.TheVariants.{In as InRoute}
+use Rattle.packet.specs.declared.route.Route.TheVariants.{Out, Hairpin, In as InRoute}
 use Rattle.packet.specs.declared.view.View.{View}
 use Rattle.sessions.specs.Listing.{In, has_inside, has_outside, put, same_flow}
-use Rattle.sessions.specs.declared.session.Opener.{Opener}
 use Rattle.sessions.specs.declared.session.Opener.TheVariants.{Inside, Remote}
 use Rattle.sessions.specs.declared.session.Session.{Session}
 use Rattle.sessions.proofs.Found.{has_outside-true}
@@ -49,83 +48,63 @@ module _ (config : Config) (live : State) (view : View) where
   abbrev now : ℕ
   now = live.clock
 
-  -- what is known of the session of a packet
-  pub record IsUsed (inside outside remote : Endpoint) (t : Session) : Type 0 where
-    pub proto : t.proto ≡ view.proto
-    pub near : t.inside ≡ inside
-    pub far : t.outside ≡ outside
-    pub to : t.remote ≡ remote
-    pub last : t.last ≡ now
+  -- the session that the packet goes out by, and the one that it comes in by from this endpoint
+  abbrev IsFirst : Session → Type 0
+  IsFirst t = (t.proto ≡ view.proto) × (t.inside ≡ view.src) × (t.remote ≡ view.dst) × (t.last ≡ now)
 
-  goes : (s : Session) (sender : Opener) → s.proto ≡ view.proto → IsUsed s.inside s.outside s.remote (passed_by s sender view.flags now)
-  goes s sender proto =
-      let keys = passed-keys s sender view.flags now in
-      record { proto = sym keys.proto ∙ proto; near = sym keys.inside; far = sym keys.outside; to = sym keys.remote; last = passed-last s sender view.flags now }
+  abbrev IsFrom : Endpoint → Session → Type 0
+  IsFrom src t = (t.proto ≡ view.proto) × (t.outside ≡ view.dst) × (t.remote ≡ src) × (t.last ≡ now)
 
-  -- ---- out
+  goes-on : (s : Session) → find (has_inside view.proto view.src view.dst) sessions ≡ Some s → IsFirst (passed_by s Inside view.flags now)
+  goes-on s found =
+      let has = has_inside-true view.proto view.src view.dst s (find-In (has_inside view.proto view.src view.dst) sessions s found).1 in
+      let keys = passed-keys s Inside view.flags now in
+      (sym keys.proto ∙ has.0, sym keys.inside ∙ has.1, sym keys.remote ∙ has.2, passed-last s Inside view.flags now)
 
-  pub leaves-out : (bytes : List ℕ) (p : Passage) → out_leg config live.rules sessions now view ≡ Ok p → Leaves bytes Out p
+  comes-on : (src : Endpoint) (held : List Session) (s : Session) → find (has_outside view.proto view.dst src) held ≡ Some s → IsFrom src (passed_by s Remote view.flags now)
+  comes-on src held s found =
+      let has = has_outside-true view.proto view.dst src s (find-In (has_outside view.proto view.dst src) held s found).1 in
+      let keys = passed-keys s Remote view.flags now in
+      (sym keys.proto ∙ has.0, sym keys.outside ∙ has.1, sym keys.remote ∙ has.2, passed-last s Remote view.flags now)
+
+  leaves-out : (bytes : List ℕ) (p : Passage) → out_leg config live.rules sessions now view ≡ Ok p → Leaves bytes Out p
   leaves-out bytes p h = elim (out-told config live.rules sessions now view p h) [
     | inl on ↦
-        let s = on.0 in
-        let t = passed_by s Inside view.flags now in
-        let has = has_inside-true view.proto view.src view.dst s (find-In (has_inside view.proto view.src view.dst) sessions s on.1).1 in
-        let used = goes s Inside has.0 in
-        subst (Leaves bytes Out) (sym on.2)
-        (t, (used.proto, used.near ∙ has.1, used.to ∙ has.2), (put-In t sessions, used.last), refl, refl)
+        let t = passed_by on.0 Inside view.flags now in
+        let is = goes-on on.0 on.1 in
+        subst (Leaves bytes Out) (sym on.2) (t, (is.0, is.1, is.2), (put-In t sessions, is.3), refl, refl)
     | inr new ↦
         let t = new_out config live.rules sessions now view new.2.0 in
-        subst (Leaves bytes Out) (sym new.2.2)
-        (t, (refl, refl, refl), (put-In t sessions, refl), refl, refl)
+        subst (Leaves bytes Out) (sym new.2.2) (t, (refl, refl, refl), (put-In t sessions, refl), refl, refl)
   ]
 
-  -- ---- in
-
-  pub leaves-in : (bytes : List ℕ) (p : Passage) → in_leg config live.rules sessions now view ≡ Ok p → Leaves bytes InRoute p
+  leaves-in : (bytes : List ℕ) (p : Passage) → in_leg config live.rules sessions now view ≡ Ok p → Leaves bytes InRoute p
   leaves-in bytes p h = elim (in-told config live.rules sessions now view p h) [
     | inl on ↦
-        let s = on.0 in
-        let t = passed_by s Remote view.flags now in
-        let has = has_outside-true view.proto view.dst view.src s (find-In (has_outside view.proto view.dst view.src) sessions s on.1).1 in
-        let used = goes s Remote has.0 in
-        subst (Leaves bytes InRoute) (sym on.2)
-        (t, (used.proto, used.far ∙ has.1, used.to ∙ has.2), (put-In t sessions, used.last), refl, refl)
+        let t = passed_by on.0 Remote view.flags now in
+        let is = comes-on view.src sessions on.0 on.1 in
+        subst (Leaves bytes InRoute) (sym on.2) (t, (is.0, is.1, is.2), (put-In t sessions, is.3), refl, refl)
     | inr new ↦
         let t = new_in config live.rules sessions now view new.2.0 in
-        subst (Leaves bytes InRoute) (sym new.2.3)
-        (t, (refl, refl, refl), (put-In t sessions, refl), refl, refl)
+        subst (Leaves bytes InRoute) (sym new.2.3) (t, (refl, refl, refl), (put-In t sessions, refl), refl, refl)
   ]
 
   -- ---- hairpin
 
-  abbrev pub IsFirst : Session → Type 0
-  IsFirst first = (first.proto ≡ view.proto) × (first.inside ≡ view.src) × (first.remote ≡ view.dst) × (first.last ≡ now)
-
   pub first-used : (first : Session) → FirstGoesOn config live.rules sessions now view first ⊎ FirstBegins config live.rules sessions now view first → IsFirst first
-  first-used first (inl on) =
-      let s = on.0 in
-      let has = has_inside-true view.proto view.src view.dst s (find-In (has_inside view.proto view.src view.dst) sessions s on.1).1 in
-      let used = goes s Inside has.0 in
-      subst IsFirst (sym on.2) (used.proto, used.near ∙ has.1, used.to ∙ has.2, used.last)
+  first-used first (inl on) = subst IsFirst (sym on.2) (goes-on on.0 on.1)
   first-used first (inr new) = subst IsFirst (sym new.2.2) (refl, refl, refl, refl)
 
-  abbrev pub IsSecond : Session → Session → Type 0
-  IsSecond first t = (t.proto ≡ view.proto) × (t.outside ≡ view.dst) × (t.remote ≡ first.outside) × (t.last ≡ now)
-
-  pub second-used : (first t : Session) (held : List Session) → SecondGoesOn config live.rules sessions now view first held t ⊎ SecondBegins config live.rules sessions now view first held t → IsSecond first t
-  second-used first t held (inl on) =
-      let s = on.0 in
-      let has = has_outside-true view.proto view.dst first.outside s (find-In (has_outside view.proto view.dst first.outside) held s on.1).1 in
-      let used = goes s Remote has.0 in
-      subst (IsSecond first) (sym on.2) (used.proto, used.far ∙ has.1, used.to ∙ has.2, used.last)
-  second-used first t held (inr new) = subst (IsSecond first) (sym new.2.3) (refl, refl, refl, refl)
+  pub second-used : (first t : Session) (held : List Session) → SecondGoesOn config live.rules sessions now view first held t ⊎ SecondBegins config live.rules sessions now view first held t → IsFrom first.outside t
+  second-used first t held (inl on) = subst (IsFrom first.outside) (sym on.2) (comes-on first.outside held on.0 on.1)
+  second-used first t held (inr new) = subst (IsFrom first.outside) (sym new.2.3) (refl, refl, refl, refl)
 
   -- the second is of another flow than the first
-  pub apart-flows : (first t : Session) → IsFirst first → IsSecond first t → same_endpoint first.outside view.dst ≡ false → same_flow t first ≡ false
+  pub apart-flows : (first t : Session) → IsFirst first → IsFrom first.outside t → same_endpoint first.outside view.dst ≡ false → same_flow t first ≡ false
   apart-flows first t is far away = flows-differ t first (λ e.
       false≢true (sym away ∙ subst (λ (x : Endpoint). same_endpoint first.outside x ≡ true) (sym far.2 ∙ e ∙ is.2) (same_endpoint-itself first.outside)))
 
-  pub leaves-both : (bytes : List ℕ) (p : Passage) → hairpin_leg config live.rules sessions now view ≡ Ok p → Leaves bytes Hairpin p
+  leaves-both : (bytes : List ℕ) (p : Passage) → hairpin_leg config live.rules sessions now view ≡ Ok p → Leaves bytes Hairpin p
   leaves-both bytes p h =
       let both = hairpin-told config live.rules sessions now view p h in
       let first = both.first in
@@ -137,17 +116,16 @@ module _ (config : Config) (live : State) (view : View) where
       (first, (is.0, is.1, is.2), (stays, is.3), (t, (far.0, far.1, far.2), (put-In t (put first sessions), far.3), refl, refl))
 
   pub leaves : (bytes : List ℕ) (r : Route) (p : Passage) → leg config live view r ≡ Ok p → Leaves bytes r p
-  leaves bytes Out p h = leaves-out bytes p h
-  leaves bytes InRoute p h = leaves-in bytes p h
-  leaves bytes Hairpin p h = leaves-both bytes p h
+  leaves bytes Out = leaves-out bytes
+  leaves bytes InRoute = leaves-in bytes
+  leaves bytes Hairpin = leaves-both bytes
 
 pub packets-leave : (config : Config) (s : State) (judged : Judged) (iface : Iface) (bytes : List ℕ) (view : View) (r : Route) (out : Iface) (packet : List ℕ)
     → Came config judged iface bytes view r → (step config s judged).1 ≡ Forward out packet → LeavesBySession (step config s judged).0 view r bytes out packet
 packets-leave config s judged iface bytes view r out packet came e =
     let passed = step-passed config s judged iface bytes view r out packet came e in
     let p = passed.passage in
-    let by = leaves config (living s judged) view bytes r p passed.passes in
-    let on : LeavesBySession (left (living s judged) p) view r bytes out (translated bytes p.src p.dst) =
-    subst (λ o. LeavesBySession (left (living s judged) p) view r bytes o (translated bytes p.src p.dst)) (sym passed.out_is) by in
-    let with_packet = subst (LeavesBySession (left (living s judged) p) view r bytes out) (sym passed.packet_is) on in
-    subst (λ (a : State). LeavesBySession a view r bytes out packet) (sym passed.after_is) with_packet
+    let leave : State → Iface → List ℕ → Type 0 = λ a o b. LeavesBySession a view r bytes o b in
+    subst (λ a. leave a out packet) (sym passed.after_is)
+    (subst (leave (left (living s judged) p) out) (sym passed.packet_is)
+    (subst (λ o. leave (left (living s judged) p) o (translated bytes p.src p.dst)) (sym passed.out_is) (leaves config (living s judged) view bytes r p passed.passes)))

@@ -1,5 +1,5 @@
 -- Sessions that take their places again, one after the other.
-use Rattle.std.proofs.Common.{◌≡◌, ℕ, ◌<◌, ◌≤◌, List, [], ◌∷◌, ◌++◌, length, drop, map, Contains, Option, true, false, cond, not, append_assoc, refl, sym, ap, subst, ◌∙◌, inl, inr, arith}
+use Rattle.std.proofs.Common.{◌≡◌, ℕ, ◌<◌, ◌≤◌, List, [], ◌∷◌, ◌++◌, length, length-append, drop, map, Contains, Option, true, false, cond, not, append_assoc, refl, sym, ap, subst, ◌∙◌, inl, inr, arith}
 use Rattle.std.proofs.lemmas.Bool.{false≢true, false_from_ne_true, lt-ltb}
 use Rattle.std.proofs.lemmas.List.{append-nil, drop_all}
 use Rattle.packet.specs.Config.{Config, Pool}
@@ -48,10 +48,6 @@ insert-last s (x ∷ xs) all =
     let not_so : below s x ≡ false = false_from_ne_true _ (λ so. below-itself s (below-trans s x s so (all x (inl refl)))) in
     ap (λ b. cond b (s ∷ x ∷ xs) (x ∷ insert s xs)) not_so ∙ ap (λ (l : List Session). x ∷ l) (insert-last s xs (λ t is. all t (inr is)))
 
-length-middle : (xs : List Session) (s : Session) (ys : List Session) → length xs < length (xs ++ s ∷ ys)
-length-middle [] s ys = omega arith
-length-middle (x ∷ xs) s ys = omega (arith, length-middle xs s ys)
-
 -- ---- the front of sound sessions is held, and the next one joins it
 
 module _ (config : Config) (xs : List Session) (s : Session) (ys : List Session) (sound : AreSound config (xs ++ s ∷ ys)) where
@@ -73,7 +69,7 @@ joins-next config external held s ys at sound =
     record {
       seen = sound.seen s here;
       apart = λ any. apart-front config front s ys sound any.held (listing-In held any.held any.place any.is_held) any.clash;
-      few = λ full. absurd (omega (arith, sound.at_most, length-middle front s ys, length-listing held, full));
+      few = λ full. absurd (omega (arith, sound.at_most, length-append front (s ∷ ys), length-listing held, full));
       placed = λ away. elim placed.outside [
         | inl same ↦ absurd (false≢true (sym away ∙ subst (λ e. same_endpoint s.inside e ≡ true) (sym same) (same_endpoint-itself s.inside)))
         | inr listed ↦ (subst (λ (pool : Pool). Contains pool s.outside.addr) (sym at) listed, placed.outside_port)
@@ -113,24 +109,11 @@ placed-all moment sessions held i le are = sym (append-nil (listing held)) ∙ s
 
 -- the session that stands for none, where a list has no such place
 abbrev pub nobody : Session
-nobody = record {
-  proto = Tcp;
-  inside = record { addr = 0; port = 0 };
-  outside = record { addr = 0; port = 0 };
-  remote = record { addr = 0; port = 0 };
-  opener = Inside;
-  seen = 0;
-  last = 0;
-}
+nobody = record { proto = Tcp; inside = record { addr = 0; port = 0 }; outside = record { addr = 0; port = 0 }; remote = record { addr = 0; port = 0 }; opener = Inside; seen = 0; last = 0 }
 
 -- a session that may begin now may join
 pub begun-joins : (external : Pool) (held : List (Option Session)) (now : ℕ) (s : Session) → MayBegin external held now s → MayJoin external held s
-begun-joins external held now s may = record {
-  seen = omega (arith, may.unseen);
-  apart = may.apart;
-  few = may.few;
-  placed = may.placed;
-}
+begun-joins external held now s may = record { seen = omega (arith, may.unseen); apart = may.apart; few = may.few; placed = may.placed }
 
 -- ---- the core
 

@@ -56,11 +56,8 @@ module _ (config : Config) (text : List ℕ) (rules : Spelled) (old new : Flows)
 -- ---- the event is answered at the clock's moment
 
 pub core-takes : (config : Config) (text new : List ℕ) (rules loaded : Spelled) (flows : Flows) (clock : ℕ) → Loads config new loaded → IsCore config text rules flows clock → IsCore config new loaded flows clock
-core-takes config text new rules loaded flows clock loads core = record {
-  external = core.external;
-  sound = record { sessions = core.sound.sessions; latest = core.sound.latest; in_force = inr loads };
-  live = core.live;
-}
+core-takes config text new rules loaded flows clock loads core =
+    record { external = core.external; sound = record { sessions = core.sound.sessions; latest = core.sound.latest; in_force = inr loads }; live = core.live }
 
 module _ (config : Config) (is_one : is_config config ≡ true) (text : List ℕ) (rules : Spelled) (old new : Flows) (clock : ℕ) (core : IsCore config text rules old clock)
     (external : new.translations.external ≡ old.translations.external) where

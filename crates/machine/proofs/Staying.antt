@@ -1,15 +1,11 @@
 -- A host stays at one external address, step by step.
-use Rattle.std.proofs.Common.{◌≡◌, ℕ, List, [], ◌∷◌, Contains, Result, Ok, Err, IfOk, true, map, sym, ap, subst, ◌∙◌, inl, inr}
+use Rattle.std.proofs.Common.{◌≡◌, ℕ, List, [], ◌∷◌, Contains, Result, IfOk, true, map, refl, sym, subst, inl, inr}
 use Rattle.packet.specs.Config.{Config, is_config}
-use Rattle.packet.specs.Fields.{fields}
-use Rattle.packet.specs.Route.{route}
-use Rattle.packet.specs.declared.endpoint.Iface.{Iface}
-use Rattle.packet.specs.declared.fault.Fault.{Fault}
 use Rattle.packet.specs.declared.route.Route.{Route}
 use Rattle.packet.specs.declared.route.Route.TheVariants.{Out, In, Hairpin}
-use Rattle.packet.specs.declared.route.RouteFault.{RouteFault}
 use Rattle.packet.specs.declared.view.View.{View}
 use Rattle.sessions.specs.Life.{alive}
+use Rattle.sessions.specs.Listing.{In as Member}
 use Rattle.sessions.specs.Sound.{AreSound}
 use Rattle.sessions.specs.Stilled.{at_moment, stilled}
 use Rattle.sessions.specs.declared.session.Session.{Session}
@@ -17,62 +13,43 @@ use Rattle.sessions.proofs.Sets.{In-filter}
 use Rattle.sessions.proofs.Stilled.{In-map}
 use Rattle.hairpin.specs.Legs.{Passage, put_all}
 use Rattle.hairpin.specs.declared.cause.Cause.{Cause}
-use Rattle.hairpin.specs.Paired.{IsAt, IsAtOne}
+use Rattle.hairpin.specs.Paired.{IsAt, IsAtOne, Translates}
 use Rattle.machine.specs.Hosts.{IsLeftToPool, LeaveToPool}
 use Rattle.machine.specs.Judged.{Judged, AreJudged}
-use Rattle.machine.specs.Machine.{State, act, after, aged, later, leg, on_route, sent, step, with_fields}
+use Rattle.machine.specs.Laws.{living}
+use Rattle.machine.specs.Machine.{State, act, after, aged, later, leg, step}
 use Rattle.machine.specs.Noted.{IsResumed, lasting}
 use Rattle.machine.specs.Sound.{IsSoundState}
 use Rattle.machine.specs.declared.deed.Deed.{Deed}
-use Rattle.machine.specs.declared.deed.Deed.TheVariants as deed
 use Rattle.machine.specs.declared.event.Event.{Event}
 use Rattle.machine.proofs.Hosts.{hairpin-keeps, in-keeps, out-keeps}
-use Rattle.machine.proofs.Soundness.{aged-sound, later-above, step-sound}
+use Rattle.machine.proofs.Soundness.{done-by, living-sound, step-sound}
 
 -- what a host of sound sessions is at is an address of the pool
 pub at-listed : (config : Config) (sessions : List Session) (host : ℕ) → AreSound config sessions → (addr : ℕ) → IsAt sessions host addr → Contains config.external addr
-at-listed config sessions host sound addr at = elim (sound.placed at.0 at.1).outside [
-  | inl same ↦ absurd (at.2.0 (sym same))
-  | inr listed ↦ subst (λ a. Contains config.external a) at.3 listed
-]
+at-listed config sessions host sound addr at = elim (sound.placed at.0 at.1).outside [ inl same ↦ absurd (at.2.0 (sym same)) | inr listed ↦ subst (λ a. Contains config.external a) at.3 listed ]
 
 -- a host is at no more addresses where there are fewer sessions
-fewer-at : (s : State) (now host addr : ℕ) → IsAt (aged now s).sessions host addr → IsAt s.sessions host addr
-fewer-at s now host addr at = (at.0, (In-filter (alive now) s.sessions at.0 at.1).0, at.2, at.3)
-
 fewer-one : (s : State) (now host : ℕ) → IsAtOne s.sessions host → IsAtOne (aged now s).sessions host
-fewer-one s now host one addr other at at_other = one addr other (fewer-at s now host addr at) (fewer-at s now host other at_other)
+fewer-one s now host one addr other at at_other =
+    let held : (u : Session) → Member u (aged now s).sessions → Member u s.sessions = λ u is. (In-filter (alive now) s.sessions u is).0 in
+    one addr other (at.0, held at.0 at.1, at.2, at.3) (at_other.0, held at_other.0 at_other.1, at_other.2, at_other.3)
 
 module _ (config : Config) (host : ℕ) (s : State) (sound : AreSound config s.sessions) (free : LeaveToPool config s.rules host) (one : IsAtOne s.sessions host) where
-  sent-one : (bytes : List ℕ) (way : Result Passage Cause) → IfOk way (λ passage. IsAtOne (put_all passage.sessions s.sessions) host) → IsAtOne (sent s bytes way).0.sessions host
-  sent-one bytes (Err cause) keeps = one
-  sent-one bytes (Ok passage) keeps = keeps
-
   leg-one : (view : View) (r : Route) → IfOk (leg config s view r) (λ passage. IsAtOne (put_all passage.sessions s.sessions) host)
   leg-one view Out = out-keeps config s.rules s.clock view host free s.sessions one (at-listed config s.sessions host sound)
   leg-one view In = in-keeps config s.rules s.clock view host free s.sessions one (at-listed config s.sessions host sound)
   leg-one view Hairpin = hairpin-keeps config s.rules s.clock view host free s.sessions one (at-listed config s.sessions host sound)
 
-  route-one : (bytes : List ℕ) (view : View) (r : Result Route RouteFault) → IsAtOne (on_route config s bytes view r).0.sessions host
-  route-one bytes view (Err fault) = one
-  route-one bytes view (Ok r) = sent-one bytes (leg config s view r) (leg-one view r)
-
-  fields-one : (iface : Iface) (bytes : List ℕ) (f : Result View Fault) → IsAtOne (with_fields config s iface bytes f).0.sessions host
-  fields-one iface bytes (Err fault) = one
-  fields-one iface bytes (Ok view) = route-one bytes view (route config iface view)
-
   act-one : (d : Deed) → IsAtOne (act config s d).0.sessions host
-  act-one (deed.Take text rules) = one
-  act-one (deed.Refuse text) = one
-  act-one (deed.Packet iface bytes) = fields-one iface bytes (fields bytes)
-  act-one deed.Moment = one
+  act-one d = done-by config s d (λ done. IsAtOne done.0.sessions host) (λ a. one) (λ text rules e. one)
+      (λ iface bytes view r deed_is fields_are route_is p h. subst (λ (way : Result Passage Cause). IfOk way (λ passage. IsAtOne (put_all passage.sessions s.sessions) host)) h (leg-one view r)) d refl
 
 module _ (config : Config) (is_one : is_config config ≡ true) (host : ℕ) where
   step-one : (s : State) (judged : Judged) → IsSoundState config s → LeaveToPool config s.rules host → IsAtOne s.sessions host → IsAtOne (step config s judged).0.sessions host
   unfolding step
   step-one s judged sound free one =
-      let now = later s.clock judged.moment in
-      act-one config host (aged now s) (aged-sound config is_one s sound now (later-above s.clock judged.moment)).sessions free (fewer-one s now host one) judged.deed
+      act-one config host (living s judged) (living-sound config is_one s judged sound).sessions free (fewer-one s (later s.clock judged.moment) host one) judged.deed
 
   pub run-one : (s : State) (events : List Event) (judged : List Judged) → AreJudged config events judged → IsSoundState config s → IsLeftToPool config host s judged → IsAtOne s.sessions host
       → IsAtOne (after config s judged).sessions host
@@ -86,9 +63,7 @@ module _ (config : Config) (is_one : is_config config ≡ true) (host : ℕ) whe
 moved-at : (moment host addr : ℕ) (sessions : List Session) → IsAt (map (at_moment moment) sessions) host addr → IsAt sessions host addr
 moved-at moment host addr sessions at =
     let s = In-map (at_moment moment) sessions at.0 at.1 in
-    let inside = ap (λ (t : Session). t.inside) s.2 in
-    let outside = ap (λ (t : Session). t.outside) s.2 in
-    (s.0, s.1, ((λ e. at.2.0 (inside ∙ e ∙ sym outside)), ap (λ (t : Session). t.inside.addr) (sym s.2) ∙ at.2.1), ap (λ (t : Session). t.outside.addr) (sym s.2) ∙ at.3)
+    (s.0, s.1, subst (Translates host) s.2 at.2, subst (λ (t : Session). t.outside.addr ≡ addr) s.2 at.3)
 
 resumed-at : (config : Config) (s again : State) (moment host addr : ℕ) → IsResumed config (lasting s) moment again → IsAt again.sessions host addr → IsAt s.sessions host addr
 resumed-at config s again moment host addr resumed at =

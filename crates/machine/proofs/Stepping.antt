@@ -24,10 +24,7 @@ none-gone (t ∷ ts) es e = absurd (cons≢nil (End (flow_of t)) (ends ts ++ es)
 pub quiet-ends : (config : Config) (s : State) (judged : Judged) (now : ℕ) → now ≡ later s.clock judged.moment → AreEntriesOf config s judged [] → EndsNone now s
 quiet-ends config s judged now is entries = λ t held.
     let none = none-gone entries.gone (of_deed config (aged (later s.clock judged.moment) s) judged.deed) entries.are in
-    elim (cases_Bool (alive now t)) [
-      | inl lives ↦ lives
-      | inr over ↦ absurd (subst (In t) none.0 (entries.are_over.all t held (subst (λ n. alive n t ≡ false) is over)))
-    ]
+    elim (cases_Bool (alive now t)) [ inl lives ↦ lives | inr over ↦ absurd (subst (In t) none.0 (entries.are_over.all t held (subst (λ n. alive n t ≡ false) is over))) ]
 
 pub quiet-deed : (config : Config) (s : State) (judged : Judged) (now : ℕ) (d : Deed) → now ≡ later s.clock judged.moment → judged.deed ≡ d → AreEntriesOf config s judged []
     → of_deed config (aged now s) d ≡ []

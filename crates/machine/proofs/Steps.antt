@@ -3,8 +3,6 @@ use Rattle.std.proofs.Common.{◌≡◌, ℕ, ◌+◌, ◌≤◌, List, [], get_
 use Rattle.packet.specs.Config.{Config, Pool}
 use Rattle.packet.specs.Fields.{fields}
 use Rattle.packet.specs.Route.{route}
-use Rattle.packet.specs.Translated.{translated}
-use Rattle.packet.specs.declared.endpoint.Endpoint.{Endpoint}
 use Rattle.packet.specs.declared.endpoint.Iface.{Iface}
 use Rattle.packet.specs.declared.route.Route.{Route}
 use Rattle.packet.specs.declared.view.View.{View}
@@ -14,18 +12,16 @@ use Rattle.sessions.specs.declared.session.Session.{Session}
 use Rattle.sessions.specs.Table.{IsSoundTable}
 use Rattle.sessions.proofs.Sets.{Apart-sound, listing-In}
 use Rattle.hairpin.proofs.Beginning.{listing-none}
-use Rattle.hairpin.specs.Legs.{Passage, put_all}
-use Rattle.hairpin.specs.Plans.{GiveAll, Plans}
+use Rattle.hairpin.specs.Legs.{Passage}
+use Rattle.hairpin.specs.Plans.{Plans}
 use Rattle.hairpin.specs.declared.cause.Cause.{Cause}
 use Rattle.hairpin.specs.declared.plan.Plan.{Plan}
-use Rattle.machine.specs.Core.{Core, IsCore, IsTransition, AddsNoSession, state_of}
+use Rattle.machine.specs.Core.{Core, IsCore, AddsNoSession, state_of}
 use Rattle.machine.specs.Judged.{Judged}
 use Rattle.machine.specs.Machine.{State, EndsNone, KeepsCount, act, aged, later, no_tables, on_route, on_packet, sent, step, with_fields}
 use Rattle.machine.specs.Sound.{IsSoundState}
 use Rattle.machine.specs.Flows.{Flows, IsNoneLater, adds, adds_second}
 use Rattle.machine.specs.declared.deed.Deed.{Deed}
-use Rattle.machine.specs.declared.event.Answer.{Answer}
-use Rattle.machine.specs.declared.event.Answer.TheVariants as answer
 use Rattle.machine.proofs.Later.{plan-adds}
 use Rattle.machine.proofs.Soundness.{later-above, start-sound}
 
@@ -35,20 +31,6 @@ pub plans-few : (external : Pool) (held : List (Option Session)) (now : ℕ) (by
 plans-few external held now bytes plan (Ok passage) sound is few =
     omega (arith, plan-adds external held now plan.first plan.second passage.sessions (Apart-sound held sound) is.sessions, few [] no_tables)
 plans-few external held now bytes plan (Err cause) sound is few = absurd is
-
--- what is held once a plan is carried out is what its leg comes to
-pub plan-leads : (external : Pool) (old new : List (Option Session)) (now : ℕ) (bytes : List ℕ) (plan : Plan)
-    → ((ts : List Session) → GiveAll external old now plan.first plan.second ts → listing new ≡ put_all ts (listing old))
-    → (way : Result Passage Cause) → Plans external old now (Ok plan) way
-    → IsTransition (λ s. sent s bytes way) old new now (answer.Forward plan.iface (translated bytes plan.src plan.dst))
-plan-leads external old new now bytes plan made (Ok passage) is = λ text rules.
-    let at : List Session → State = λ xs. record { text = text; rules = rules; sessions = xs; clock = now } in
-    let said : Iface → Endpoint → Endpoint → Answer = λ iface src dst. answer.Forward iface (translated bytes src dst) in
-    ap (λ xs. (at xs, said passage.iface passage.src passage.dst)) (sym (made passage.sessions is.sessions))
-    ∙ ap (λ iface. (at (listing new), said iface passage.src passage.dst)) (sym is.iface)
-    ∙ ap (λ src. (at (listing new), said plan.iface src passage.dst)) (sym is.src)
-    ∙ ap (λ dst. (at (listing new), said plan.iface plan.src dst)) (sym is.dst)
-plan-leads external old new now bytes plan made (Err cause) is = absurd is
 
 -- a packet whose fields and route are known
 pub on_packet-is : (config : Config) (iface : Iface) (bytes : List ℕ) (view : View) (r : Route) → fields bytes ≡ Ok view → route config iface view ≡ Ok r
@@ -80,6 +62,6 @@ pub started : (config : Config) (text : List ℕ) (rules : Spelled) (flows : Flo
     → ((slot : ℕ) → get_or flows.table.held slot None ≡ None) → IsCore config text rules flows moment
 started config text rules flows moment external none_said none_ruled none = record {
   external = external;
-  sound = subst (IsSoundState config) (sym (ap (λ (c : Core). c.state) (begins config text rules flows.table.held moment none_said none_ruled none))) (start-sound config moment);
-  live = subst (EndsNone moment) (sym (ap (λ (c : Core). c.state) (begins config text rules flows.table.held moment none_said none_ruled none))) (λ s held. absurd held);
+  sound = subst (λ (c : Core). IsSoundState config c.state) (sym (begins config text rules flows.table.held moment none_said none_ruled none)) (start-sound config moment);
+  live = subst (λ (c : Core). EndsNone moment c.state) (sym (begins config text rules flows.table.held moment none_said none_ruled none)) (λ s held. absurd held);
 }

@@ -9,9 +9,8 @@ use Rattle.sessions.specs.Life.{IsSeen}
 use Rattle.sessions.specs.Listing.{Rises, key, listing, put, same_flow}
 use Rattle.sessions.specs.declared.session.Change as changes
 use Rattle.sessions.specs.declared.session.Change.TheVariants as change
-use Rattle.sessions.specs.declared.session.Opener.{Opener}
 use Rattle.sessions.specs.Stilled.{stilled}
-use Rattle.sessions.specs.Table.{AnyClash, IsSoundTable, restarted, seen}
+use Rattle.sessions.specs.Table.{AnyClash, IsSoundTable}
 use Rattle.sessions.proofs.LifeLemmas.{IsSeen-or}
 use Rattle.sessions.proofs.Puts.{find-is, find-none, flow-keys, has_inside-true, keys-flow}
 use Rattle.sessions.proofs.Sets.{Apart, Apart-sound, In-listing, Rises-listing, listing-In}
@@ -41,31 +40,19 @@ module _ (held : List (Option Session)) (apart : Apart held) where
       let at = In-listing held u in_u in
       free (record { place = at.0; held = u; is_held = at.1; clash = inl (has_inside-true t.proto t.inside t.remote u h) })))
 
-  -- the entries of changes
-  module _ (external : Pool) (now : ℕ) where
-    pub begin-told : (s t : Session) → Gives external held now (change.Begin s) t → Begin (stilled s) ∷ [] ≡ entries_for (listing held) t
-    begin-told s t gives =
-        let may : MayBegin external held now t = subst (MayBegin external held now) gives.0 gives.1 in
-        ap (λ u. Begin (stilled u) ∷ []) gives.0 ∙ sym (noted-new t may.apart)
+  pub begin-told : (external : Pool) (now : ℕ) (s t : Session) → Gives external held now (change.Begin s) t → Begin (stilled s) ∷ [] ≡ entries_for (listing held) t
+  begin-told external now s t gives =
+      let may : MayBegin external held now t = subst (MayBegin external held now) gives.0 gives.1 in
+      ap (λ u. Begin (stilled u) ∷ []) gives.0 ∙ sym (noted-new t may.apart)
 
-    pub seen-told : (slot bits : ℕ) (s t : Session) → get_or held slot None ≡ Some s → Gives external held now (change.Seen slot bits) t
-        → between s (seen s bits now) ≡ entries_for (listing held) t
-    seen-told slot bits s t is gives =
-        let same : s ≡ gives.0 = same_Some s gives.0 (sym is ∙ gives.1) in
-        let t_is : seen s bits now ≡ t = ap (λ u. seen u bits now) same ∙ sym gives.3 in
-        ap (between s) t_is ∙ sym (noted-held slot s t is (keys-flow t s (ap key (sym t_is))))
-
-    pub restart-told : (slot : ℕ) (opener : Opener) (s t : Session) → get_or held slot None ≡ Some s → Gives external held now (change.Restart slot opener) t
-        → between s (restarted s opener now) ≡ entries_for (listing held) t
-    restart-told slot opener s t is gives =
-        let same : s ≡ gives.0 = same_Some s gives.0 (sym is ∙ gives.1) in
-        let t_is : restarted s opener now ≡ t = ap (λ u. restarted u opener now) same ∙ sym gives.2 in
-        ap (between s) t_is ∙ sym (noted-held slot s t is (keys-flow t s (ap key (sym t_is))))
+  -- what is made of a session that is held, under its own key
+  pub made-told : (make : Session → Session) → ((s : Session) → key (make s) ≡ key s) → (slot : ℕ) (s t : Session) → get_or held slot None ≡ Some s
+      → (x : Session) → get_or held slot None ≡ Some x → t ≡ make x → between s (make s) ≡ entries_for (listing held) t
+  made-told make own slot s t is x at made =
+      let t_is : make s ≡ t = ap make (same_Some s x (sym is ∙ at)) ∙ sym made in
+      ap (between s) t_is ∙ sym (noted-held slot s t is (keys-flow t s (ap key (sym t_is) ∙ own s)))
 
 -- what a change makes of a session has seen bits of its protocol
-pub begin-fits : (external : Pool) (held : List (Option Session)) (now : ℕ) (s t : Session) → Gives external held now (change.Begin s) t → IsSeen s.proto s.seen
-begin-fits external held now s t gives = omega (arith, gives.1.unseen)
-
 pub seen-fits : (external : Pool) (held : List (Option Session)) (now slot bits : ℕ) (s t : Session) → IsSoundTable held → get_or held slot None ≡ Some s
     → Gives external held now (change.Seen slot bits) t → IsSeen s.proto (bit_or s.seen bits)
 seen-fits external held now slot bits s t sound is gives =
@@ -92,12 +79,10 @@ module _ (held : List (Option Session)) (apart : Apart held) (external : Pool) (
   second-told (change.Begin s) u alone then new = absurd (new s refl)
   second-told (change.Seen slot bits) u alone then new =
       let g = then leads.later leads.became in
-      let told = told-before slot g.0 u (alone slot refl) g.1 (keys-flow u g.0 (ap key g.3)) in
-      ((g.0, told.0, g.2, g.3), told.1)
+      let told = told-before slot g.0 u (alone slot refl) g.1 (keys-flow u g.0 (ap key g.3)) in ((g.0, told.0, g.2, g.3), told.1)
   second-told (change.Restart slot opener) u alone then new =
       let g = then leads.later leads.became in
-      let told = told-before slot g.0 u (alone slot refl) g.1 (keys-flow u g.0 (ap key g.2)) in
-      ((g.0, told.0, g.2), told.1)
+      let told = told-before slot g.0 u (alone slot refl) g.1 (keys-flow u g.0 (ap key g.2)) in ((g.0, told.0, g.2), told.1)
 
   -- one that begins makes an entry
   pub begun-told : (s u : Session) → GivesThen external held now first t (change.Begin s) u → entries_for (put t (listing held)) u ≡ Begin (stilled u) ∷ []
@@ -135,11 +120,11 @@ first-adds held apart external now (change.Restart slot opener) t gives more non
 -- what a plan with two changes tells, where the first makes no entry
 module _ (held : List (Option Session)) (sound : IsSoundTable held) (external : Pool) (now : ℕ) (first second : changes.Change) (ts : List Session)
     (gives : GiveAll external held now first (Some second) ts) where
-  own : Apart held
-  own = Apart-sound held sound
+  second-so : adds second ≡ 0 → Gives external held now second gives.1 × (entries_for (put gives.0 (listing held)) gives.1 ≡ entries_for (listing held) gives.1)
+  second-so none = second-told held (Apart-sound held sound) external now first gives.0 gives.2 second gives.1 gives.3 gives.4 (no_begin second none)
 
   pub second-gives : adds second ≡ 0 → Gives external held now second gives.1
-  second-gives none = (second-told held own external now first gives.0 gives.2 second gives.1 gives.3 gives.4 (no_begin second none)).0
+  second-gives none = (second-so none).0
 
   both-noted : entries_for_all ts (listing held) ≡ entries_for (listing held) gives.0 ++ (entries_for (put gives.0 (listing held)) gives.1 ++ [])
   both-noted = ap (λ us. entries_for_all us (listing held)) gives.5
@@ -148,14 +133,14 @@ module _ (held : List (Option Session)) (sound : IsSoundTable held) (external : 
   begin-is-noted some none =
       let begins = begins-one second some in
       let then = subst (λ c. GivesThen external held now first gives.0 c gives.1) begins.1 gives.4 in
-      let told = begun-told held own external now first gives.0 gives.2 begins.0 gives.1 then in
+      let told = begun-told held (Apart-sound held sound) external now first gives.0 gives.2 begins.0 gives.1 then in
       some-behind (entries_for (listing held) gives.0) (Begin (stilled gives.1)) []
       (sym (ap (λ es. entries_for (listing held) gives.0 ++ (es ++ [])) told) ∙ sym both-noted ∙ none)
 
   pub both-told : adds second ≡ 0 → entries_for (listing held) gives.0 ≡ [] → entries_for_all ts (listing held) ≡ entries_for (listing held) gives.1 ++ []
   both-told none quiet =
       both-noted ∙ ap (λ es. es ++ (entries_for (put gives.0 (listing held)) gives.1 ++ [])) quiet
-      ∙ ap (λ es. es ++ []) (second-told held own external now first gives.0 gives.2 second gives.1 gives.3 gives.4 (no_begin second none)).1
+      ∙ ap (λ es. es ++ []) (second-so none).1
 
 -- where no entry is made, no session begins
 pub quiet-adds : (held : List (Option Session)) → IsSoundTable held → (external : Pool) (now : ℕ) (first : changes.Change) (second : Option changes.Change) (ts : List Session)
@@ -166,10 +151,7 @@ quiet-adds held sound external now first None ts gives none =
 quiet-adds held sound external now first (Some second) ts gives none =
     let one = first-adds held (Apart-sound held sound) external now first gives.0 gives.2 (entries_for (put gives.0 (listing held)) gives.1 ++ [])
     (sym (both-noted held sound external now first second ts gives) ∙ none) in
-    elim (cases_lt 0 (adds second)) [
-      | inl some ↦ absurd (begin-is-noted held sound external now first second ts gives some none)
-      | inr le ↦ omega (arith, one, le)
-    ]
+    elim (cases_lt 0 (adds second)) [ inl some ↦ absurd (begin-is-noted held sound external now first second ts gives some none) | inr le ↦ omega (arith, one, le) ]
 
 pub nil-unless : (es : List Entry) → (es ≢ [] → ⊥) → es ≡ []
 nil-unless [] h = refl
