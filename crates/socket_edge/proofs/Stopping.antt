@@ -22,37 +22,29 @@ use Rattle.frames.specs.Framing.{EventsAndRest}
 use Rattle.socket_edge.specs.Joined.{given_then, taken_then}
 use Rattle.socket_edge.specs.Progress.{replies, Progress}
 use Rattle.socket_edge.specs.Running.{AtEachTurn, MayGoOn, ComesBy, Fares, Preserves, events_in}
-use Rattle.socket_edge.specs.Serving.{AsksFirst, AsksOnce, ComesByOne, NeverAsks, SettledAndSent}
-use Rattle.socket_edge.specs.Turns.{Turn, Gave, ReadFailed, Took, WriteFailed, given, taken}
+use Rattle.socket_edge.specs.Serving.{AsksFirst, AsksOnce, ComesByOne, SettledAndSent}
+use Rattle.socket_edge.specs.Turns.{Turn, Took, WriteFailed, given, taken}
 use Rattle.socket_edge.proofs.Behind.{at_behind, at_last, at_mid, at_turn, by_at, by_both, by_first, by_next, by_then}
 use Rattle.socket_edge.proofs.Answers.{all-once, Progress-told, Reached-then, all_sent, last_of, reached-told, replies-append}
 use Rattle.socket_edge.proofs.Closing.{events_cut, framed_then_cut}
 use Rattle.socket_edge.proofs.Lasting.{fares, le-or-lt, not-longer, replies-length, safe-behind, safe-fewer}
 use Rattle.socket_edge.proofs.Runs.{Going, Served-answered, framed_more, going-ends}
-use Rattle.socket_edge.proofs.Talks.{Talked, first-nil, first-then, never_given, turn_of}
+use Rattle.socket_edge.proofs.Talks.{Talked, first-nil, first-then, never_given, never_later, turn_of}
 
 -- ---- turns
 
-never_front : (turns after : List Turn) → NeverAsks (turns ++ after) → NeverAsks turns
-never_front [] after p = tt
-never_front (Gave bytes ∷ turns) after p = absurd p
-never_front (ReadFailed ∷ turns) after p = absurd p
-never_front (Took bytes ∷ turns) after p = never_front turns after p
-never_front (WriteFailed ∷ turns) after p = never_front turns after p
-
 -- what was given was given first
-first_given : (t : Turn) (middle after : List Turn) → AsksFirst ((t ∷ middle) ++ after) → given (t ∷ middle) ≡ given ((t ∷ middle) ++ after)
-first_given (Gave bytes) middle after asks = ap (λ (x : List ℕ). bytes ++ x) (never_given middle (never_front middle after asks) ∙ sym (never_given (middle ++ after) asks))
-first_given ReadFailed middle after asks = never_given middle (never_front middle after asks) ∙ sym (never_given (middle ++ after) asks)
-first_given (Took bytes) middle after asks = absurd asks
-first_given WriteFailed middle after asks = absurd asks
+first_given : (t : Turn) (middle after : List Turn) → AsksFirst ((t ∷ middle) ++ after) → given ((t ∷ middle) ++ after) ≡ given (t ∷ middle)
+first_given t middle after asks =
+    let none : given (middle ++ after) ≡ [] = (never_given (middle ++ after) (never_later t (middle ++ after) asks)).0 in
+    let last : given after ≡ [] = nil_from_length (given after) (omega (arith, ap length none, ap length (given_then middle after), length-append (given middle) (given after))) in
+    given_then (t ∷ middle) after ∙ ap (λ (x : List ℕ). given (t ∷ middle) ++ x) last ∙ append-nil (given (t ∷ middle))
 
 -- by the first of them it takes none
 first_takes : (t : Turn) (after : List Turn) → AsksFirst (t ∷ after) → taken (t ∷ []) ≡ []
-first_takes (Gave bytes) after asks = refl
-first_takes ReadFailed after asks = refl
 first_takes (Took bytes) after asks = absurd asks
 first_takes WriteFailed after asks = absurd asks
+first_takes t after asks = refl
 
 module _ {D : Type 0} (honest : D → Type 0) (moment : D → ℕ) (left : D → ℕ → Files → Type 0)
     (earlier : (disk : D) (s t : ℕ) (files : Files) → s ≤ t → left disk t files → left disk s files) where
@@ -139,13 +131,6 @@ module _ {D : Type 0} (honest : D → Type 0) (moment : D → ℕ) (left : D →
             subst (λ (k : ℕ). LeavesOnly moment left a.disk b.disk (IsSafe a.told.config a.told.state o.front k)) none o.any_moment;
         configured = f.configured ready.is_honest ready.stands;
       }
-
-  by-same : (a x b : Kept D) (one other all_one all_other : List Event) (s t : List ℕ) → one ≡ other → all_one ≡ all_other → s ≡ t
-      → ComesBy honest moment left a x b one all_one s → ComesBy honest moment left a x b other all_other t
-  by-same a x b one other all_one all_other s t same all sent by =
-      subst (λ (l : List ℕ). ComesBy honest moment left a x b other all_other l) sent
-      (subst (λ (es : List Event). ComesBy honest moment left a x b other es s) all
-      (subst (λ (es : List Event). ComesBy honest moment left a x b es all_one s) same by))
 
   -- ---- one after the other
 
@@ -288,16 +273,12 @@ module _ {D : Type 0} (honest : D → Type 0) (moment : D → ℕ) (left : D →
       pub fares : Fares honest moment left start now (events_in got) sent
       pub are : so talked.turns
 
-    no_turn : (before after : List Turn) (t : Turn) → [] ≡ before ++ t ∷ after → ⊥
-    no_turn [] after t e = cc
-    no_turn (b ∷ before) after t e = cc
-
     pub stops-nil : (start : Kept D) → AtEachTurn honest moment left start start []
     stops-nil start = record {
       by = λ (before : List Turn). start;
       first = refl;
       last = refl;
-      each = λ before t after e. absurd (no_turn before after t e);
+      each = λ before t after e. absurd (omega (arith, ap length e, length-append before (t ∷ after)));
     }
 
     pub walked-first : (still : (peer : P) → went peer peer []) (start : Kept D) (a : P) → Fares honest moment left start start (events_in []) [] → (so : List Turn → Type 0) → so []
@@ -340,7 +321,7 @@ module _ {D : Type 0} (honest : D → Type 0) (moment : D → ℕ) (left : D →
       taken_are more = taken_then ts more ∙ ap (λ (bytes : List ℕ). bytes ++ taken more) w.talked.takes
 
       gave_then : (t : Turn) (middle after : List Turn) → a.turns ≡ (t ∷ middle) ++ after → given (t ∷ middle) ≡ got
-      gave_then t middle after e = first_given t middle after (subst AsksFirst e a.asks) ∙ ap given (sym e) ∙ a.gives
+      gave_then t middle after e = sym (ap given e ∙ first_given t middle after (subst AsksFirst e a.asks)) ∙ a.gives
 
       -- what comes behind all of the earlier turns
       later-preserves : (k m : Kept D) (short : List ℕ) → IsAtRest honest start → Preserves honest moment left b k m fs short → Preserves honest moment left start k m (events_in (x ++ got)) (y ++ short)
@@ -376,47 +357,28 @@ module _ {D : Type 0} (honest : D → Type 0) (moment : D → ℕ) (left : D →
           let before_is : given (ts ++ []) ≡ x = ap given (append-nil ts) ∙ w.talked.gives in
           let given_is : given (ts ++ t ∷ []) ≡ x ++ got = given_are (t ∷ []) (gave_then t [] after e) in
           let taken_is : taken (ts ++ t ∷ []) ≡ y ++ [] = taken_are (t ∷ []) ∙ ap (λ (l : List ℕ). y ++ l) (first_takes t after (subst AsksFirst e a.asks)) in
-          let comes : (k : Kept D) → Fares honest moment left b k fs sent → ComesBy honest moment left start b k (events_in (given (ts ++ []))) (events_in (given (ts ++ t ∷ []))) (taken (ts ++ t ∷ [])) =
-          λ k fares_k. by-same start b k (events_in x) (events_in (given (ts ++ []))) (events_in (x ++ got)) (events_in (given (ts ++ t ∷ []))) (y ++ []) (taken (ts ++ t ∷ []))
-          (ap (λ (l : List ℕ). events_in l) (sym before_is)) (ap (λ (l : List ℕ). events_in l) (sym given_is)) (sym taken_is) (at-read k fares_k) in
-          at_behind b mid c a.turns [] after t
-          (λ (k : Kept D). ComesBy honest moment left start b k (events_in (given (ts ++ []))) (events_in (given (ts ++ t ∷ []))) (taken (ts ++ t ∷ [])))
-          e (comes mid by.comes.until) (comes c f)
+          rw (before_is, given_is, taken_is)
+          (at_behind b mid c a.turns [] after t (λ (k : Kept D). ComesBy honest moment left start b k (events_in x) (events_in (x ++ got)) (y ++ [])) e (at-read mid by.comes.until) (at-read c f))
       exchange (m ∷ middle) t after e =
           let front : List Turn = (m ∷ middle) ++ t ∷ [] in
           let all : a.turns ≡ front ++ after = e ∙ sym (append_assoc (m ∷ middle) (t ∷ []) after) in
           let before_is : given (ts ++ (m ∷ middle)) ≡ x ++ got = given_are (m ∷ middle) (gave_then m middle (t ∷ after) e) in
           let given_is : given (ts ++ front) ≡ x ++ got = given_are front (gave_then m (middle ++ t ∷ []) after all) in
-          let taken_is : taken (ts ++ front) ≡ y ++ taken front = taken_are front in
-          let comes : (k : Kept D) → ComesBy honest moment left start mid k (events_in (x ++ got)) (events_in (x ++ got)) (y ++ taken front)
-          → ComesBy honest moment left start mid k (events_in (given (ts ++ (m ∷ middle)))) (events_in (given (ts ++ front))) (taken (ts ++ front)) =
-          λ k is. by-same start mid k (events_in (x ++ got)) (events_in (given (ts ++ (m ∷ middle)))) (events_in (x ++ got)) (events_in (given (ts ++ front))) (y ++ taken front) (taken (ts ++ front))
-          (ap (λ (l : List ℕ). events_in l) (sym before_is)) (ap (λ (l : List ℕ). events_in l) (sym given_is)) (sym taken_is) is in
-          subst (λ (k : Kept D). ComesBy honest moment left start k (exchange_by front) (events_in (given (ts ++ (m ∷ middle)))) (events_in (given (ts ++ front))) (taken (ts ++ front)))
-          (sym (at_mid b mid c a.turns middle after m t e))
-          (at_behind b mid c a.turns (m ∷ middle) after t
-          (λ (k : Kept D). ComesBy honest moment left start mid k (events_in (given (ts ++ (m ∷ middle)))) (events_in (given (ts ++ front))) (taken (ts ++ front)))
-          e (comes mid (by-end start mid (events_in (x ++ got)) (y ++ taken front) (until-write front after all))) (comes c (by-write front after all)))
+          let so : Kept D → Type 0 = λ (k : Kept D). ComesBy honest moment left start mid k (events_in (x ++ got)) (events_in (x ++ got)) (y ++ taken front) in
+          rw (before_is, given_is, taken_are front, at_mid b mid c a.turns middle after m t e)
+          (at_behind b mid c a.turns (m ∷ middle) after t so e (by-end start mid (events_in (x ++ got)) (y ++ taken front) (until-write front after all)) (by-write front after all))
 
       -- one of the earlier turns
       then-earlier : (before rest : List Turn) (t : Turn) → ts ≡ before ++ t ∷ rest
           → ComesBy honest moment left start (all_by before) (all_by (before ++ t ∷ [])) (events_in (given before)) (events_in (given (before ++ t ∷ []))) (taken (before ++ t ∷ []))
       then-earlier before rest t e =
-          let next = before ++ t ∷ [] in
-          subst (λ (k : Kept D). ComesBy honest moment left start k (all_by next) (events_in (given before)) (events_in (given next)) (taken next)) (sym (by_at ts before rest t w.stops.by (at_turn b mid c a.turns) e))
-          (subst (λ (k : Kept D). ComesBy honest moment left start (w.stops.by before) k (events_in (given before)) (events_in (given next)) (taken next)) (sym (by_next ts before rest t w.stops.by (at_turn b mid c a.turns) e w.stops.last))
-          (w.stops.each before t rest e))
+          rw (by_at ts before rest t w.stops.by (at_turn b mid c a.turns) e, by_next ts before rest t w.stops.by (at_turn b mid c a.turns) e w.stops.last) (w.stops.each before t rest e)
 
       -- one of the later ones
       then-later : (before middle after : List Turn) (t : Turn) → before ≡ ts ++ middle → a.turns ≡ middle ++ t ∷ after
           → ComesBy honest moment left start (all_by before) (all_by (before ++ t ∷ [])) (events_in (given before)) (events_in (given (before ++ t ∷ []))) (taken (before ++ t ∷ []))
       then-later before middle after t is e =
-          let next = middle ++ t ∷ [] in
-          subst (λ (bs : List Turn). ComesBy honest moment left start (all_by bs) (all_by (bs ++ t ∷ [])) (events_in (given bs)) (events_in (given (bs ++ t ∷ []))) (taken (bs ++ t ∷ []))) (sym is)
-          (subst (λ (ns : List Turn). ComesBy honest moment left start (all_by (ts ++ middle)) (all_by ns) (events_in (given (ts ++ middle))) (events_in (given ns)) (taken ns)) (sym (append_assoc ts middle (t ∷ [])))
-          (subst (λ (k : Kept D). ComesBy honest moment left start k (all_by (ts ++ next)) (events_in (given (ts ++ middle))) (events_in (given (ts ++ next))) (taken (ts ++ next))) (sym (by_then ts middle w.stops.by (at_turn b mid c a.turns)))
-          (subst (λ (k : Kept D). ComesBy honest moment left start (exchange_by middle) k (events_in (given (ts ++ middle))) (events_in (given (ts ++ next))) (taken (ts ++ next))) (sym (by_then ts next w.stops.by (at_turn b mid c a.turns)))
-          (exchange middle t after e))))
+          rw (is, append_assoc ts middle (t ∷ []), by_then ts middle w.stops.by (at_turn b mid c a.turns), by_then ts (middle ++ t ∷ []) w.stops.by (at_turn b mid c a.turns)) (exchange middle t after e)
 
       pub walked-then : (then : List Turn → Type 0) → then (ts ++ a.turns) → Walked then start c p r (x ++ got) (y ++ sent)
       walked-then then is =
