@@ -14,7 +14,7 @@ use Rattle.gateway.specs.Running.{Stands}
 use Rattle.gateway.specs.Told.{Told}
 use Rattle.gateway.proofs.Runs.{safe-less, true-false}
 use Rattle.socket_edge.specs.declared.fault.EdgeFault.{EdgeFault}
-use Rattle.socket_edge.specs.declared.fault.EdgeFault.TheVariants.{BadKind, BadInterface, TooLong, Truncated, Input, Output, Gateway}
+use Rattle.socket_edge.specs.declared.fault.EdgeFault.TheVariants.{Truncated, Input, Output, Gateway}
 use Rattle.frames.specs.Requests.{Cut, next}
 use Rattle.frames.specs.Framing.{EventsAndRest, Remainder, Rest, with_first, whole_frames}
 use Rattle.frames.specs.Answers.{frame}
@@ -26,10 +26,6 @@ use Rattle.socket_edge.proofs.Reading.{Reads-nil, Reads-more, Reads-then}
 use Rattle.socket_edge.proofs.Answers.{AnsweredFirst-then, Progress-nil, Progress-then, Reached-then, answers_due-append, answers_due-is, first-then, last_of, reached-told}
 use Rattle.socket_edge.proofs.Lasting.{any-then, configured-then, fares-then}
 use Rattle.socket_edge.proofs.Closing.{events_cut, framed_then_cut, Answered-of}
-
--- the events of the bytes that came before, and of those that come
-pub framed_more : (given unanswered got : List ℕ) (events : List Event) → Reads given events unanswered → whole_frames (given ++ got) ≡ with_first events (whole_frames (unanswered ++ got))
-framed_more given unanswered got events r = r.goes got
 
 -- behind what was sent before
 Progress-shift : (old new : Told) (events : List Event) (before out : List ℕ) → Progress old new events [] out → Progress old new events before (before ++ out)
@@ -51,12 +47,12 @@ Served-then a b c given unanswered got rest w sent n m p q = record {
 answered_then : (a b c : Told) (given unanswered got w sent : List ℕ) (n : ℕ) → Served a b given unanswered w n → Answered b c (unanswered ++ got) sent → Answered a c (given ++ got) (w ++ sent)
 answered_then a b c given unanswered got w sent n p q =
     Answered-of a c (given ++ got) (w ++ sent)
-    (subst (λ (f : EventsAndRest). Progress a c f.events [] (w ++ sent)) (sym (framed_more given unanswered got p.events p.reads))
+    (subst (λ (f : EventsAndRest). Progress a c f.events [] (w ++ sent)) (sym (p.reads.goes got))
     (Progress-then a b c p.events (whole_frames (unanswered ++ got)).events [] w (w ++ sent) p.progress (Progress-shift b c (whole_frames (unanswered ++ got)).events w sent q.progress)))
     (λ h. q.none (p.none h))
 
 stop_then : (a b : Told) (given unanswered got w : List ℕ) (n : ℕ) (s : Remainder) → Served a b given unanswered w n → (whole_frames (unanswered ++ got)).remainder ≡ s → (whole_frames (given ++ got)).remainder ≡ s
-stop_then a b given unanswered got w n s p e = ap (λ (f : EventsAndRest). f.remainder) (framed_more given unanswered got p.events p.reads) ∙ e
+stop_then a b given unanswered got w n s p e = ap (λ (f : EventsAndRest). f.remainder) (p.reads.goes got) ∙ e
 
 begins_then : (a b c : Told) (es fs : List Event) (w sent : List ℕ) → Progress a b es [] w → BeginsFrames b c fs sent → BeginsFrames a c (es ++ fs) (w ++ sent)
 begins_then a b c es fs w sent p q =
@@ -72,23 +68,21 @@ begins_then a b c es fs w sent p q =
     }
 
 pub EndsBy-then : (e : EdgeFault) (a b c : Told) (given unanswered got w sent : List ℕ) (n : ℕ) (at_end : Type 0) → Served a b given unanswered w n → EndsBy e b c (unanswered ++ got) sent at_end → EndsBy e a c (given ++ got) (w ++ sent) at_end
-EndsBy-then BadKind a b c given unanswered got w sent n at_end p q = (stop_then a b given unanswered got w n _ p q.0, answered_then a b c given unanswered got w sent n p q.1)
-EndsBy-then BadInterface a b c given unanswered got w sent n at_end p q = (stop_then a b given unanswered got w n _ p q.0, answered_then a b c given unanswered got w sent n p q.1)
-EndsBy-then TooLong a b c given unanswered got w sent n at_end p q = (stop_then a b given unanswered got w n _ p q.0, answered_then a b c given unanswered got w sent n p q.1)
 EndsBy-then Truncated a b c given unanswered got w sent n at_end p q = (q.0, stop_then a b given unanswered got w n _ p q.1, q.2, answered_then a b c given unanswered got w sent n p q.3, q.4)
 EndsBy-then Input a b c given unanswered got w sent n at_end p q = answered_then a b c given unanswered got w sent n p q
 EndsBy-then Output a b c given unanswered got w sent n at_end p q =
-    let f : (whole_frames (given ++ got)).events ≡ p.events ++ (whole_frames (unanswered ++ got)).events = ap (λ (x : EventsAndRest). x.events) (framed_more given unanswered got p.events p.reads) in
+    let f : (whole_frames (given ++ got)).events ≡ p.events ++ (whole_frames (unanswered ++ got)).events = ap (λ (x : EventsAndRest). x.events) (p.reads.goes got) in
     subst (λ (es : List Event). BeginsFrames a c es (w ++ sent)) (sym f) (begins_then a b c p.events (whole_frames (unanswered ++ got)).events w sent p.progress q)
 EndsBy-then (Gateway fault) a b c given unanswered got w sent n at_end p q =
-    subst (λ (f : EventsAndRest). AnsweredFirst a c f.events (w ++ sent)) (sym (framed_more given unanswered got p.events p.reads))
+    subst (λ (f : EventsAndRest). AnsweredFirst a c f.events (w ++ sent)) (sym (p.reads.goes got))
     (AnsweredFirst-then a b c p.events (whole_frames (unanswered ++ got)).events w sent p.progress q)
+EndsBy-then e a b c given unanswered got w sent n at_end p q = (stop_then a b given unanswered got w n _ p q.0, answered_then a b c given unanswered got w sent n p q.1)
 
 pub AllAnswered-then : (a b c : Told) (given unanswered got w sent : List ℕ) (n m : ℕ) (at_end : Type 0) → Served a b given unanswered w n → AllAnswered m b c (unanswered ++ got) sent at_end → AllAnswered (n + m) a c (given ++ got) (w ++ sent) at_end
 AllAnswered-then a b c given unanswered got w sent n m at_end p q = record {
   answered = answered_then a b c given unanswered got w sent n p q.answered;
   whole = stop_then a b given unanswered got w n _ p q.whole;
-  count_is = omega (arith, p.count_is, q.count_is, length-append p.events (whole_frames (unanswered ++ got)).events, ap (λ (f : EventsAndRest). length f.events) (framed_more given unanswered got p.events p.reads));
+  count_is = omega (arith, p.count_is, q.count_is, length-append p.events (whole_frames (unanswered ++ got)).events, ap (λ (f : EventsAndRest). length f.events) (p.reads.goes got));
   ended = q.ended;
 }
 
@@ -99,13 +93,8 @@ Served-answered a b given unanswered w n p =
 
 -- no end of the input was seen
 pub EndsBy-seen : (e : EdgeFault) (b c : Told) (bytes sent : List ℕ) (at_end : Type 0) → EndsBy e b c bytes sent ⊥ → EndsBy e b c bytes sent at_end
-EndsBy-seen BadKind b c bytes sent at_end q = q
-EndsBy-seen BadInterface b c bytes sent at_end q = q
-EndsBy-seen TooLong b c bytes sent at_end q = q
 EndsBy-seen Truncated b c bytes sent at_end q = absurd q.4
-EndsBy-seen Input b c bytes sent at_end q = q
-EndsBy-seen Output b c bytes sent at_end q = q
-EndsBy-seen (Gateway fault) b c bytes sent at_end q = q
+EndsBy-seen e b c bytes sent at_end q = q
 
 -- nothing more came
 pub nothing : (b : Told) (unanswered : List ℕ) → next unanswered ≡ Cut → Answered b b (unanswered ++ []) []
@@ -178,7 +167,7 @@ module _ {D : Type 0} (honest : D → Type 0) (moment : D → ℕ) (left : D →
       → Fares honest moment left a c (events_in (given ++ got)) (w ++ sent)
   going-ends a b c given unanswered got w sent n g f =
       let p = g.served in
-      subst (λ (x : EventsAndRest). Fares honest moment left a c x.events (w ++ sent)) (sym (framed_more given unanswered got p.events p.reads))
+      subst (λ (x : EventsAndRest). Fares honest moment left a c x.events (w ++ sent)) (sym (p.reads.goes got))
       (fares-then honest moment left failed earlier a b c p.events (events_in (unanswered ++ got)) w sent p.progress p.none g.was_honest g.stays_honest g.configured g.any_moment g.stands f)
 
   -- the loop gave up
@@ -195,11 +184,6 @@ module _ {D : Type 0} (honest : D → Type 0) (moment : D → ℕ) (left : D →
 
   -- why it ends, said of the whole run
   pub going-why : (a b c : Kept D) (given unanswered w : List ℕ) (n : ℕ) (e : EdgeFault) → Going a b given unanswered w n → Explains honest moment left failed e b c → Explains honest moment left failed e a c
-  going-why a b c given unanswered w n BadKind g x = (x.0, x.1 ∙ g.no_failure)
-  going-why a b c given unanswered w n BadInterface g x = (x.0, x.1 ∙ g.no_failure)
-  going-why a b c given unanswered w n TooLong g x = (x.0, x.1 ∙ g.no_failure)
-  going-why a b c given unanswered w n Truncated g x = (x.0, x.1 ∙ g.no_failure)
-  going-why a b c given unanswered w n Input g x = (x.0, x.1 ∙ g.no_failure)
   going-why a b c given unanswered w n Output g x = record {
     no_failure = λ up. x.no_failure up ∙ g.no_failure;
     device = λ down. subst (λ (k : ℕ). Grew k (failed c.disk)) g.no_failure (x.device down);
@@ -217,34 +201,20 @@ module _ {D : Type 0} (honest : D → Type 0) (moment : D → ℕ) (left : D →
     },
     λ up. x.1 up ∙ g.no_failure,
   )
+  going-why a b c given unanswered w n e g x = (x.0, x.1 ∙ g.no_failure)
 
   -- a gateway that stood isn't to be opened again
   pub not-reopen : (a c : Kept D) (e : EdgeFault) → Explains honest moment left failed e a c → e ≢ Gateway fault.Reopen
-  not-reopen a c BadKind x = λ is. absurd cc
-  not-reopen a c BadInterface x = λ is. absurd cc
-  not-reopen a c TooLong x = λ is. absurd cc
-  not-reopen a c Truncated x = λ is. absurd cc
-  not-reopen a c Input x = λ is. absurd cc
-  not-reopen a c Output x = λ is. absurd cc
-  not-reopen a c (Gateway why) x = λ is. let same : why ≡ fault.Reopen = cc in x.0.stood same
+  not-reopen a c e x is = (subst (λ (f : EdgeFault). Explains honest moment left failed f a c) is x).0.stood refl
 
   -- room was made
   pub not-full : (a c : Kept D) (e : EdgeFault) → Explains honest moment left failed e a c → (e ≢ Gateway fault.HeldFull) × (e ≢ Gateway fault.Full)
-  not-full a c BadKind x = ((λ is. absurd cc), (λ is. absurd cc))
-  not-full a c BadInterface x = ((λ is. absurd cc), (λ is. absurd cc))
-  not-full a c TooLong x = ((λ is. absurd cc), (λ is. absurd cc))
-  not-full a c Truncated x = ((λ is. absurd cc), (λ is. absurd cc))
-  not-full a c Input x = ((λ is. absurd cc), (λ is. absurd cc))
-  not-full a c Output x = ((λ is. absurd cc), (λ is. absurd cc))
-  not-full a c (Gateway why) x =
-      ((λ is. let same : why ≡ fault.HeldFull = cc in x.0.made_room.0 same), (λ is. let same : why ≡ fault.Full = cc in x.0.made_room.1 same))
+  not-full a c e x =
+      let so : EdgeFault → Type 0 = λ (f : EdgeFault). Explains honest moment left failed f a c in
+      ((λ is. (subst so is x).0.made_room.0 refl), (λ is. (subst so is x).0.made_room.1 refl))
 
   -- it had fallen before: nothing is done
   pub fallen-fares : (start : Kept D) (events : List Event) → start.fallen ≡ true → Fares honest moment left start start events []
-  fallen-fares start events down = record {
-    was_honest = λ h. h;
-    stays_honest = λ up h. h;
-    configured = λ h up. absurd (true-false start.fallen down up);
-    outlives = λ ready. absurd (true-false start.fallen down ready.stands);
-    none = λ held up. held;
-  }
+  fallen-fares start events down =
+      let no : start.fallen ≡ false → ⊥ = true-false start.fallen down in
+      record { was_honest = λ h. h; stays_honest = λ up h. h; configured = λ h up. absurd (no up); outlives = λ ready. absurd (no ready.stands); none = λ held up. held }

@@ -28,7 +28,7 @@ use Rattle.socket_edge.proofs.Behind.{at_behind, at_last, at_mid, at_turn, by_at
 use Rattle.socket_edge.proofs.Answers.{all-once, Progress-told, Reached-then, all_sent, last_of, reached-told, replies-append}
 use Rattle.socket_edge.proofs.Closing.{events_cut, framed_then_cut}
 use Rattle.socket_edge.proofs.Lasting.{fares, le-or-lt, not-longer, replies-length, safe-behind, safe-fewer}
-use Rattle.socket_edge.proofs.Runs.{Going, Served-answered, framed_more, going-ends}
+use Rattle.socket_edge.proofs.Runs.{Going, Served-answered, going-ends}
 use Rattle.socket_edge.proofs.Talks.{Talked, first-nil, first-then, never_given, never_later, turn_of}
 
 -- ---- turns
@@ -312,7 +312,7 @@ module _ {D : Type 0} (honest : D → Type 0) (moment : D → ℕ) (left : D →
       rested ready = record { stands = g.stands; is_honest = g.stays_honest ready.is_honest; none = g.served.none ready.none }
 
       together : events_in (x ++ got) ≡ g.served.events ++ fs
-      together = ap (λ (e : EventsAndRest). e.events) (framed_more x unanswered got g.served.events g.served.reads)
+      together = ap (λ (e : EventsAndRest). e.events) (g.served.reads.goes got)
 
       given_are : (more : List Turn) → given more ≡ got → given (ts ++ more) ≡ x ++ got
       given_are more gave = given_then ts more ∙ ap (λ (bytes : List ℕ). bytes ++ given more) w.talked.gives ∙ ap (λ (bytes : List ℕ). x ++ bytes) gave
