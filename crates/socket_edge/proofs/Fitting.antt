@@ -3,13 +3,11 @@ use Rattle.std.proofs.Common.{◌≡◌, ◌<◌, ◌+◌, ◌↔◌, ℕ, zero,
 use Rattle.std.specs.Prelude.{slice_index}
 use Rattle.std.specs.List.{flat_map}
 use Rattle.packet.specs.Laws.{AreBytes}
-use Rattle.packet.specs.declared.endpoint.Iface.{Iface}
 use Rattle.machine.specs.declared.event.Event.{Event}
 use Rattle.machine.specs.declared.event.What.{What}
-use Rattle.machine.specs.declared.event.What.TheVariants.{Packet}
 use Rattle.frames.specs.Framing.{EventsAndRest, whole_frames}
 use Rattle.frames.specs.Streams.{IsStream, header, interface_of, kind_of, request, request_body}
-use Rattle.socket_edge.specs.Running.{PacketsAreBytes, events_in}
+use Rattle.socket_edge.specs.Running.{PacketsAreBytes}
 
 pub none-fit : AreBytes []
 none-fit = λ k. omega arith

@@ -16,11 +16,11 @@ use Rattle.gateway.proofs.Runs.{safe-less, true-false}
 use Rattle.socket_edge.specs.declared.fault.EdgeFault.{EdgeFault}
 use Rattle.socket_edge.specs.declared.fault.EdgeFault.TheVariants.{Truncated, Input, Output, Gateway}
 use Rattle.frames.specs.Requests.{Cut, next}
-use Rattle.frames.specs.Framing.{EventsAndRest, Remainder, Rest, with_first, whole_frames}
+use Rattle.frames.specs.Framing.{EventsAndRest, Remainder, Rest, whole_frames}
 use Rattle.frames.specs.Answers.{frame}
 use Rattle.socket_edge.specs.Progress.{answers_due, AreFirst, Progress, AnsweredFirst, BeginsFrames}
 use Rattle.socket_edge.specs.Running.{Answered, EndsBy, AllAnswered, Explains, Fares, events_in}
-use Rattle.socket_edge.specs.Serving.{Reads, Served}
+use Rattle.socket_edge.specs.Serving.{Served}
 use Rattle.frames.proofs.Frames.{next_nil}
 use Rattle.socket_edge.proofs.Reading.{Reads-nil, Reads-more, Reads-then}
 use Rattle.socket_edge.proofs.Answers.{AnsweredFirst-then, Progress-nil, Progress-then, Reached-then, answers_due-append, answers_due-is, first-then, last_of, reached-told}
@@ -148,12 +148,11 @@ module _ {D : Type 0} (honest : D → Type 0) (moment : D → ℕ) (left : D →
         served = Served-then a.told b.told c.told given unanswered got rest w sent n m p q;
         was_honest = λ h. g.was_honest (f.was_honest h);
         stays_honest = λ h. f.stays_honest stands (g.stays_honest h);
-        configured = λ h. configured-then honest moment left failed earlier a b c p.progress.took.config (g.stays_honest h) (g.configured h) (f.configured (g.stays_honest h) g.stands);
+        configured = λ h. configured-then honest moment left failed earlier a b c p.progress.took.config (g.configured h) (f.configured (g.stays_honest h) g.stands);
         any_moment = λ ready.
-            let there = g.stays_honest ready.is_honest in
-            let o = f.outlives (record { stands = g.stands; is_honest = there; none = p.none ready.none }) in
+            let o = f.outlives (record { stands = g.stands; is_honest = g.stays_honest ready.is_honest; none = p.none ready.none }) in
             let all : q.events ≡ o.front ++ o.back = sym (events_cut (unanswered ++ got) rest q.events q.reads q.cut) ∙ o.split in
-            any-then honest moment left failed earlier a b c p.events q.events w p.progress (g.any_moment ready) there
+            any-then honest moment left earlier a b c p.events q.events w p.progress (g.any_moment ready)
             (narrows moment left b.disk c.disk (λ before files. IsSafe b.told.config b.told.state o.front 0 files) (λ before files. IsSafe b.told.config b.told.state q.events 0 files) o.any_moment
             (λ before files was is. subst (λ (es : List Event). IsSafe b.told.config b.told.state es 0 files) (sym all) (safe-less b.told.config b.told.state o.front o.back 0 0 files (omega arith) is)));
         stood = g.stood;

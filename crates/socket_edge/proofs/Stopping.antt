@@ -1,33 +1,24 @@
 -- A run that is stopped in its midst.
-use Rattle.std.proofs.Common.{◌≡◌, inl, inr, ⊎_elim, ℕ, ◌+◌, ◌-◌, ◌≤◌, List, [], ◌∷◌, ◌++◌, false, length, take, refl, sym, ap, ◌∙◌, subst, arith, append_assoc, length-append, Ok}
-use Rattle.std.specs.List.{flat_map}
-use Rattle.std.proofs.lemmas.List.{append-nil, nil_from_length, take-append-le}
-use Rattle.std.proofs.lemmas.List.Concat.{flat_map-append}
-use Rattle.std.proofs.Math.Seq.{take-append-add}
-use Rattle.packet.specs.Config.{Config}
-use Rattle.disk_model.specs.Disk.{Files, LeavesOnly}
-use Rattle.disk_model.proofs.Moments.{idle, narrows, only_now, only_then}
-use Rattle.durable.specs.Recovery.{IsConfigured}
-use Rattle.machine.specs.Judged.{Judged, AreJudged}
+use Rattle.std.proofs.Common.{◌≡◌, inl, inr, ℕ, ◌+◌, ◌-◌, ◌≤◌, List, [], ◌∷◌, ◌++◌, length, refl, sym, ap, ◌∙◌, subst, arith, append_assoc, length-append, Ok}
+use Rattle.std.proofs.lemmas.List.{append-nil, nil_from_length}
+use Rattle.disk_model.specs.Disk.{Files}
 use Rattle.machine.specs.Laws.{EventsAreJudgedOnce}
 use Rattle.machine.specs.declared.event.Answer.{Answer}
 use Rattle.machine.specs.declared.event.Event.{Event}
-use Rattle.machine.proofs.Judging.{AreJudged-append, AreJudged-length}
 use Rattle.gateway.specs.declared.fault.GatewayFault.{GatewayFault}
-use Rattle.gateway.specs.Kept.{Kept, IsAtRest, IsSafe}
+use Rattle.gateway.specs.Kept.{Kept, IsAtRest}
 use Rattle.gateway.specs.Running.{Stands, CarriesOn, BreaksOff}
-use Rattle.gateway.proofs.Runs.{ended, safe-less}
-use Rattle.frames.specs.Answers.{frame}
+use Rattle.gateway.proofs.Runs.{ended}
 use Rattle.frames.specs.Framing.{EventsAndRest}
 use Rattle.socket_edge.specs.Joined.{given_then, taken_then}
-use Rattle.socket_edge.specs.Progress.{replies, Progress}
+use Rattle.socket_edge.specs.Progress.{Progress}
 use Rattle.socket_edge.specs.Running.{AtEachTurn, MayGoOn, ComesBy, Fares, Preserves, events_in}
 use Rattle.socket_edge.specs.Serving.{AsksFirst, AsksOnce, ComesByOne, SettledAndSent}
 use Rattle.socket_edge.specs.Turns.{Turn, Took, WriteFailed, given, taken}
 use Rattle.socket_edge.proofs.Behind.{at_behind, at_last, at_mid, at_turn, by_at, by_both, by_first, by_next, by_then}
-use Rattle.socket_edge.proofs.Answers.{all-once, Progress-told, Reached-then, all_sent, last_of, reached-told, replies-append}
+use Rattle.socket_edge.proofs.Answers.{Progress-told}
 use Rattle.socket_edge.proofs.Closing.{events_cut, framed_then_cut}
-use Rattle.socket_edge.proofs.Lasting.{fares, le-or-lt, not-longer, replies-length, safe-behind, safe-fewer}
+use Rattle.socket_edge.proofs.Lasting.{fares, preserves-behind, preserves-end, preserves-on, since-entry}
 use Rattle.socket_edge.proofs.Runs.{Going, Served-answered, going-ends}
 use Rattle.socket_edge.proofs.Talks.{Talked, first-nil, first-then, never_given, never_later, turn_of}
 
@@ -92,142 +83,10 @@ module _ {D : Type 0} (honest : D → Type 0) (moment : D → ℕ) (left : D →
 
   -- at the end
   by-end : (a b : Kept D) (events : List Event) (sent : List ℕ) → Fares honest moment left a b events sent → ComesBy honest moment left a b b events events sent
-  by-end a b events sent f = record {
-    until = f;
-    since = λ ready.
-        let o = f.outlives ready in
-        record {
-          front = o.front;
-          back = o.back;
-          split = o.split;
-          judged = o.judged;
-          are_judged = o.are_judged;
-          reached = o.reached;
-          since = λ n fits whole. idle moment left b.disk (IsSafe a.told.config a.told.state o.front n) (o.at_exit n fits whole);
-          configured = idle moment left b.disk (IsConfigured a.told.config)
-              (only_now moment left a.disk b.disk (IsConfigured a.told.config) (earlier b.disk) (f.configured ready.is_honest ready.stands));
-        };
-  }
+  by-end a b events sent f = record { until = f; since = λ ready. preserves-end honest moment left earlier a b events sent f ready }
 
   pub by-one-end : (a b : Kept D) (events : List Event) (sent : List ℕ) → Fares honest moment left a b events sent → ComesByOne honest moment left a b events sent
   by-one-end a b events sent f = record { now = b; comes = by-end a b events sent f }
-
-  -- since the entry
-  since-entry : (a b : Kept D) (events : List Event) (sent : List ℕ) → Fares honest moment left a b events sent → IsAtRest honest a → Preserves honest moment left a a b events []
-  since-entry a b events sent f ready =
-      let o = f.outlives ready in
-      let all = replies a.told o.judged in
-      let size : length all ≡ length o.front = replies-length a.told o.judged ∙ AreJudged-length a.told.config o.front o.judged o.are_judged in
-      record {
-        front = o.front;
-        back = o.back;
-        split = o.split;
-        judged = o.judged;
-        are_judged = o.are_judged;
-        reached = o.reached;
-        since = λ n fits whole.
-            let few : n ≤ 0 = not-longer [] all n (omega (arith, fits, size)) whole in
-            let none : 0 ≡ n = omega (arith, few) in
-            subst (λ (k : ℕ). LeavesOnly moment left a.disk b.disk (IsSafe a.told.config a.told.state o.front k)) none o.any_moment;
-        configured = f.configured ready.is_honest ready.stands;
-      }
-
-  -- ---- one after the other
-
-  module _ (a b c x : Kept D) (es fs : List Event) (w : List ℕ) (p : Progress a.told b.told es [] w) (none : a.told.held ≡ [] → b.told.held ≡ []) (there : honest b.disk) (stands : b.fallen ≡ false) (ready : IsAtRest honest a) where
-    behind : (later : List Event) (m : ℕ) (files : Files) → IsSafe b.told.config b.told.state later m files → IsSafe a.told.config a.told.state (es ++ later) (length es + m) files
-    behind later m files is = safe-behind a.told b.told es later p.took.judged m files p.took.are_judged p.took.config p.took.state is
-
-    sent_are : w ≡ flat_map frame (replies a.told p.took.judged)
-    sent_are = all_sent a.told b.told es w p none ready.none
-
-    replies_are : (later : List Judged) → replies a.told (p.took.judged ++ later) ≡ replies a.told p.took.judged ++ replies b.told later
-    replies_are later = replies-append a.told b.told p.took.judged later p.took.config p.took.state (last_of a.told b.told es p.handed p.took)
-
-    many : length (replies a.told p.took.judged) ≡ length es
-    many = replies-length a.told p.took.judged ∙ AreJudged-length a.told.config es p.took.judged p.took.are_judged
-
-    -- as the events of the first part are judged
-    as-taken : EventsAreJudgedOnce → (short : List ℕ) → Preserves honest moment left a x b es short → (n : ℕ) → n ≤ length es → length (flat_map frame (take n (replies a.told p.took.judged))) ≤ length short
-        → LeavesOnly moment left x.disk b.disk (IsSafe a.told.config a.told.state es n)
-    as-taken once short k n fits whole =
-        let size : length k.judged ≡ length k.front = AreJudged-length a.told.config k.front k.judged k.are_judged in
-        let last : b.told.last ≡ a.told.last + length es = p.took.last in
-        let nothing : k.back ≡ [] = nil_from_length k.back (omega (arith, ap length k.split, length-append k.front k.back, size, k.reached.last, last)) in
-        let same : es ≡ k.front = k.split ∙ ap (λ (xs : List Event). k.front ++ xs) nothing ∙ append-nil k.front in
-        let one : p.took.judged ≡ k.judged = all-once once a.told.config k.front p.took.judged k.judged (subst (λ (xs : List Event). AreJudged a.told.config xs p.took.judged) same p.took.are_judged) k.are_judged in
-        subst (λ (xs : List Event). LeavesOnly moment left x.disk b.disk (IsSafe a.told.config a.told.state xs n)) (sym same)
-        (k.since n (omega (arith, fits, ap length same)) (subst (λ (js : List Judged). length (flat_map frame (take n (replies a.told js))) ≤ length short) one whole))
-
-    -- what the first part preserves since then, the second doesn't lose
-    preserves-on : EventsAreJudgedOnce → (short sent : List ℕ) → length short ≤ length w → Preserves honest moment left a x b es short → Fares honest moment left b c fs sent
-        → Preserves honest moment left a x c (es ++ fs) short
-    preserves-on once short sent shorter k f =
-        let o = f.outlives (record { stands = stands; is_honest = there; none = none ready.none }) in
-        let js = p.took.judged in
-        let first = replies a.told js in
-        let then = replies b.told o.judged in
-        let both = replies_are o.judged in
-        record {
-          front = es ++ o.front;
-          back = o.back;
-          split = ap (λ (xs : List Event). es ++ xs) o.split ∙ sym (append_assoc es o.front o.back);
-          judged = js ++ o.judged;
-          are_judged = AreJudged-append a.told.config es o.front js o.judged p.took.are_judged (subst (λ (k : Config). AreJudged k o.front o.judged) p.took.config o.are_judged);
-          reached = Reached-then a.told b.told c.told js o.judged (reached-told a.told b.told es p.handed p.took) o.reached;
-          since = λ n fits whole.
-              let more : length then ≡ length o.front = replies-length b.told o.judged ∙ AreJudged-length b.told.config o.front o.judged o.are_judged in
-              let few : n ≤ length first = not-longer first then n (omega (arith, fits, length-append es o.front, length-append first then, many, more))
-              (omega (arith, whole, shorter, ap length sent_are, ap (λ (xs : List (ℕ × Answer)). length (flat_map frame (take n xs))) both)) in
-              let front : take n (replies a.told (js ++ o.judged)) ≡ take n first = ap (λ (xs : List (ℕ × Answer)). take n xs) both ∙ take-append-le n first then few in
-              only_then moment left x.disk b.disk c.disk (IsSafe a.told.config a.told.state es n) (IsSafe b.told.config b.told.state o.front 0) (IsSafe a.told.config a.told.state (es ++ o.front) n)
-              (earlier b.disk)
-              (as-taken once short k n (omega (arith, few, many)) (omega (arith, whole, ap (λ (xs : List (ℕ × Answer)). length (flat_map frame xs)) front)))
-              o.any_moment
-              (λ files is. safe-less a.told.config a.told.state es o.front n n files (omega arith) is)
-              (λ files is. safe-fewer a.told.config a.told.state (es ++ o.front) (length es + 0) n files (omega (arith, few, many)) (behind o.front 0 files is));
-          configured = only_then moment left x.disk b.disk c.disk (IsConfigured a.told.config) (IsConfigured a.told.config) (IsConfigured a.told.config) (earlier b.disk) k.configured
-              (subst (λ (k : Config). LeavesOnly moment left b.disk c.disk (IsConfigured k)) p.took.config (f.configured there stands)) (λ files is. is) (λ files is. is);
-        }
-
-    -- what the second part preserves, behind all of the first
-    preserves-behind : (short : List ℕ) → Preserves honest moment left b x c fs short → Preserves honest moment left a x c (es ++ fs) (w ++ short)
-    preserves-behind short k =
-        let js = p.took.judged in
-        let first = replies a.told js in
-        let then = replies b.told k.judged in
-        record {
-          front = es ++ k.front;
-          back = k.back;
-          split = ap (λ (xs : List Event). es ++ xs) k.split ∙ sym (append_assoc es k.front k.back);
-          judged = js ++ k.judged;
-          are_judged = AreJudged-append a.told.config es k.front js k.judged p.took.are_judged (subst (λ (c : Config). AreJudged c k.front k.judged) p.took.config k.are_judged);
-          reached = Reached-then a.told b.told c.told js k.judged (reached-told a.told b.told es p.handed p.took) k.reached;
-          since = λ n fits whole.
-              ⊎_elim
-              (λ le. narrows moment left x.disk c.disk (λ before files. IsSafe b.told.config b.told.state k.front 0 files) (λ before files. IsSafe a.told.config a.told.state (es ++ k.front) n files)
-              (k.since 0 (omega arith) (omega arith))
-              (λ before files was is. safe-fewer a.told.config a.told.state (es ++ k.front) (length es + 0) n files (omega (arith, le)) (behind k.front 0 files is)))
-              (λ more.
-              let m = n - length es in
-              let is_n : n ≡ length es + m = omega (arith, more) in
-              let front : take n (replies a.told (js ++ k.judged)) ≡ first ++ take m then =
-              ap (λ (xs : List (ℕ × Answer)). take n xs) (replies_are k.judged) ∙ ap (λ (i : ℕ). take i (first ++ then)) (omega (arith, is_n, many)) ∙ take-append-add first then m in
-              let within : length (flat_map frame (take m then)) ≤ length short = omega (
-                arith,
-                whole,
-                ap (λ (xs : List (ℕ × Answer)). length (flat_map frame xs)) front,
-                ap length (flat_map-append frame first (take m then)),
-                length-append (flat_map frame first) (flat_map frame (take m then)),
-                ap length sent_are,
-                length-append w short,
-              ) in
-              narrows moment left x.disk c.disk (λ before files. IsSafe b.told.config b.told.state k.front m files) (λ before files. IsSafe a.told.config a.told.state (es ++ k.front) n files)
-              (k.since m (omega (arith, fits, length-append es k.front, is_n)) within)
-              (λ before files was is. subst (λ (i : ℕ). IsSafe a.told.config a.told.state (es ++ k.front) i files) (sym is_n) (behind k.front m files is)))
-              (le-or-lt n (length es));
-          configured = subst (λ (i : Config). LeavesOnly moment left x.disk c.disk (IsConfigured i)) p.took.config k.configured;
-        }
 
   -- ---- one exchange
 
@@ -259,7 +118,7 @@ module _ {D : Type 0} (honest : D → Type 0) (moment : D → ℕ) (left : D →
                 let end = by-end start mid es sent (subst (λ (gs : List Event). Fares honest moment left start mid gs sent) all until) in
                 let kept = end.since ready in
                 subst (λ (gs : List Event). Preserves honest moment left start mid now gs sent) (append-nil es ∙ sym all)
-                (preserves-on start mid now mid es [] sent p (λ _. a.4.none) (s.ran.stays_honest s.stands ready.is_honest) s.stands ready once sent [] (omega arith) kept f);
+                (preserves-on honest moment left earlier start mid now es [] sent p (λ _. a.4.none) mid once sent [] (omega arith) ready (record { stands = s.stands; is_honest = s.ran.stays_honest s.stands ready.is_honest; none = a.4.none }) kept f);
           };
         }
 
@@ -327,13 +186,13 @@ module _ {D : Type 0} (honest : D → Type 0) (moment : D → ℕ) (left : D →
       later-preserves : (k m : Kept D) (short : List ℕ) → IsAtRest honest start → Preserves honest moment left b k m fs short → Preserves honest moment left start k m (events_in (x ++ got)) (y ++ short)
       later-preserves k m short ready is =
           subst (λ (es : List Event). Preserves honest moment left start k m es (y ++ short)) (sym together)
-          (preserves-behind start b m k g.served.events fs y g.served.progress g.served.none (g.stays_honest ready.is_honest) g.stands ready short is)
+          (preserves-behind honest moment left earlier start b m g.served.events fs y g.served.progress g.served.none k short ready.none is)
 
       -- at the read
       at-read : (k : Kept D) → Fares honest moment left b k fs sent → ComesBy honest moment left start b k (events_in x) (events_in (x ++ got)) (y ++ [])
       at-read k fares_k = record {
         until = subst (λ (l : List ℕ). Fares honest moment left start b (events_in x) l) (sym (append-nil y)) w.fares;
-        since = λ ready. later-preserves b k [] ready (since-entry b k fs sent fares_k (rested ready));
+        since = λ ready. later-preserves b k [] ready (since-entry honest moment left earlier b k fs sent fares_k (rested ready));
       }
 
       -- at a write
