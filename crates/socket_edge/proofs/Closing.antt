@@ -7,7 +7,8 @@ use Rattle.machine.specs.declared.event.Answer.{Answer}
 use Rattle.machine.specs.declared.event.Event.{Event}
 use Rattle.gateway.specs.declared.fault.GatewayFault.{GatewayFault}
 use Rattle.gateway.specs.declared.fault.GatewayFault.TheVariants as fault
-use Rattle.gateway.specs.Kept.{Kept}
+use Rattle.machine.specs.Laws.{EventsAreJudgedOnce}
+use Rattle.gateway.specs.Kept.{Kept, IsAtRest}
 use Rattle.gateway.specs.Running.{Stands, Stops, Ends, IsWhy, CarriesOn, BreaksOff}
 use Rattle.gateway.specs.Told.{Told, TookAll}
 use Rattle.gateway.proofs.Runs.{ended, true-false}
@@ -21,13 +22,13 @@ use Rattle.frames.specs.Requests.{Cut, Bad, next}
 use Rattle.frames.specs.Framing.{EventsAndRest, Rest, Fault, with_first, whole_frames}
 use Rattle.frames.specs.Answers.{frame}
 use Rattle.socket_edge.specs.Progress.{Progress, AnsweredFirst}
-use Rattle.socket_edge.specs.Running.{Answered, Explains, FallsByAFailure, Fares, LastTurn, events_in}
+use Rattle.socket_edge.specs.Running.{Answered, Explains, FallsByAFailure, Fares, LastTurn, Preserves, events_in}
 use Rattle.socket_edge.specs.Turns.{Turn, AllPass}
-use Rattle.socket_edge.specs.Serving.{Closed, IsBad, IsSettled, GatewayRefuses, Offered, Reads, Served, SettledAndSent, end_of}
+use Rattle.socket_edge.specs.Serving.{Closed, ComesByOne, IsBad, IsSettled, GatewayRefuses, Offered, Reads, Served, SettledAndSent, end_of}
 use Rattle.frames.proofs.Frames.{framed_cut, framed_bad}
 use Rattle.socket_edge.proofs.Reading.{Reads-is}
 use Rattle.socket_edge.proofs.Answers.{AnsweredFirst-told, BeginsFrames-told, Progress-told, all_sent}
-use Rattle.socket_edge.proofs.Lasting.{fares, fares-if}
+use Rattle.socket_edge.proofs.Lasting.{fares, fares-if, preserves-end, preserves-on}
 
 -- what the bytes are, where no whole frame is left
 pub framed_then_cut : (bytes rest : List ℕ) (events : List Event) → Reads bytes events rest → next rest ≡ Cut → whole_frames bytes ≡ record { events = events; remainder = Rest rest }
@@ -221,41 +222,56 @@ module _ {D : Type 0} (honest : D → Type 0) (moment : D → ℕ) (left : D →
 
   -- ---- the file is compacted
 
-  -- all whole frames at the front were settled, and their answers sent
-  pub served : (mid now : Kept D) (bytes rest : List ℕ) (count : ℕ) (out after : List (ℕ × Answer)) (sent : List ℕ) → SettledAndSent honest moment left failed (Ok count) start mid bytes rest out sent
-      → CarriesOn honest moment left failed mid now [] out after → after ≡ out → now.told.held ≡ [] → Served start.told now.told bytes rest sent count
-  served mid now bytes rest count out after sent a on same none =
-      let s : Up now a.0 out = subst (λ (l : List (ℕ × Answer)). Up now a.0 l) same (carry mid now a.0 out after on a.4.stands) in
-      record {
-        events = a.0;
-        reads = a.1;
-        cut = a.2;
-        count_is = a.3;
-        progress = subst (λ (l : List ℕ). Progress start.told now.told a.0 [] l) (sym a.5) (Progress-told start.told now.told a.0 out s.ran.took);
-        none = λ _. none;
-      }
+  -- all whole frames at the front were settled, and their answers sent; and behind the compaction nothing is held
+  module _ (once : EventsAreJudgedOnce) (mid now : Kept D) (bytes rest : List ℕ) (count : ℕ) (out : List (ℕ × Answer)) (sent : List ℕ) (a : SettledAndSent honest moment left failed (Ok count) start mid bytes rest out sent)
+      (begun : Stands honest moment left failed mid mid [] []) (none : now.told.held ≡ []) where
+    all : events_in bytes ≡ a.0
+    all = events_cut bytes rest a.0 a.1 a.2
 
-  pub served-fares : (mid now : Kept D) (bytes rest : List ℕ) (count : ℕ) (out after : List (ℕ × Answer)) (sent : List ℕ) → SettledAndSent honest moment left failed (Ok count) start mid bytes rest out sent
-      → CarriesOn honest moment left failed mid now [] out after → after ≡ out → now.told.held ≡ [] → Fares honest moment left start now (events_in bytes) sent
-  served-fares mid now bytes rest count out after sent a on same none =
-      let s : Up now a.0 out = subst (λ (l : List (ℕ × Answer)). Up now a.0 l) same (carry mid now a.0 out after on a.4.stands) in
-      fares honest moment left failed start now (events_in bytes) a.0 [] out sent [] (ended honest moment left seen failed reads earlier start now a.0 out s)
-      (all_of a.0 (events_in bytes) (events_cut bytes rest a.0 a.1 a.2)) (append-nil sent ∙ a.5) (λ _. none)
+    progress : (k : Kept D) → Up k a.0 out → Progress start.told k.told a.0 [] sent
+    progress k s = subst (λ (l : List ℕ). Progress start.told k.told a.0 [] l) (sym a.5) (Progress-told start.told k.told a.0 out s.ran.took)
 
-  pub served-no_failure : (mid now : Kept D) (bytes rest : List ℕ) (count : ℕ) (out after : List (ℕ × Answer)) (sent : List ℕ) → SettledAndSent honest moment left failed (Ok count) start mid bytes rest out sent
-      → CarriesOn honest moment left failed mid now [] out after → failed now.disk ≡ failed start.disk
-  served-no_failure mid now bytes rest count out after sent a on = (carry mid now a.0 out after on a.4.stands).no_failure
+    fares-so : (k : Kept D) → Up k a.0 out → k.told.held ≡ [] → Fares honest moment left start k (events_in bytes) sent
+    fares-so k s held = fares honest moment left failed start k (events_in bytes) a.0 [] out sent [] (ended honest moment left seen failed reads earlier start k a.0 out s) (all_of a.0 (events_in bytes) all) (append-nil sent ∙ a.5) (λ _. held)
 
-  -- it couldn't be compacted
-  pub not_compacted : (mid now : Kept D) (bytes rest : List ℕ) (count : ℕ) (out after : List (ℕ × Answer)) (sent : List ℕ) (why : GatewayFault) → SettledAndSent honest moment left failed (Ok count) start mid bytes rest out sent
-      → BreaksOff honest moment left failed mid now [] out after why → after ≡ out → now.told.held ≡ []
-      → AnsweredFirst start.told now.told (events_in bytes) sent × Fares honest moment left start now (events_in bytes) sent × Explains honest moment left failed (Gateway why) start now
-  not_compacted mid now bytes rest count out after sent why a breaks same none =
-      let off = breaks start a.0 a.4.stands in
-      let front = a.0 ++ off.0 in
-      let split : events_in bytes ≡ front ++ (off.1 ++ []) = all_of a.0 (events_in bytes) (events_cut bytes rest a.0 a.1 a.2) ∙ front_none a.0 off.0 off.1 [] off.2 in
-      let ends : Ends honest moment left failed start now front out = subst (λ (l : List (ℕ × Answer)). Ends honest moment left failed start now front l) same off.3.ends in (
-        subst (λ (l : List ℕ). AnsweredFirst start.told now.told (events_in bytes) l) (sym a.5) (AnsweredFirst-told start.told now.told (events_in bytes) front (off.1 ++ []) out split ends.ran.took),
-        fares honest moment left failed start now (events_in bytes) front (off.1 ++ []) out sent [] ends split (append-nil sent ∙ a.5) (λ _. none),
-        (off.3.is_why, none-failed now front after why off.3),
-      )
+    comes-by : Fares honest moment left mid now [] [] → ComesByOne honest moment left start now (events_in bytes) sent
+    comes-by f =
+        let s = a.4.stands in
+        let until = fares-so mid s a.4.none in
+        record {
+          now = mid;
+          comes = record {
+            until = until;
+            since = λ ready.
+                let kept = preserves-end honest moment left earlier start mid a.0 sent (subst (λ (gs : List Event). Fares honest moment left start mid gs sent) all until) ready in
+                let rests : IsAtRest honest mid = record { stands = s.stands; is_honest = s.ran.stays_honest s.stands ready.is_honest; none = a.4.none } in
+                subst (λ (gs : List Event). Preserves honest moment left start mid now gs sent) (sym (all_of a.0 (events_in bytes) all))
+                (preserves-on honest moment left earlier start mid now a.0 [] sent (progress mid s) (λ _. a.4.none) mid once sent [] (omega arith) ready rests kept f);
+          };
+        }
+
+    -- it was compacted
+    pub compacted : ((before : List (ℕ × Answer)) → CarriesOn honest moment left failed mid now [] before before)
+        → Served start.told now.told bytes rest sent count × Fares honest moment left start now (events_in bytes) sent × ComesByOne honest moment left start now (events_in bytes) sent × (failed now.disk ≡ failed start.disk)
+    compacted on =
+        let s = carry mid now a.0 out out (on out) a.4.stands in (
+          record { events = a.0; reads = a.1; cut = a.2; count_is = a.3; progress = progress now s; none = λ _. none },
+          fares-so now s none,
+          comes-by (fares honest moment left failed mid now [] [] [] [] [] [] (ended honest moment left seen failed reads earlier mid now [] [] (on [] mid [] begun)) refl refl (λ _. none)),
+          s.no_failure,
+        )
+
+    -- it couldn't be
+    pub not_compacted : (why : GatewayFault) → ((before : List (ℕ × Answer)) → BreaksOff honest moment left failed mid now [] before before why)
+        → AnsweredFirst start.told now.told (events_in bytes) sent × Fares honest moment left start now (events_in bytes) sent × ComesByOne honest moment left start now (events_in bytes) sent
+        × Explains honest moment left failed (Gateway why) start now
+    not_compacted why breaks =
+        let off = breaks out start a.0 a.4.stands in
+        let front = a.0 ++ off.0 in
+        let split : events_in bytes ≡ front ++ (off.1 ++ []) = all_of a.0 (events_in bytes) all ∙ front_none a.0 off.0 off.1 [] off.2 in
+        let here = breaks [] mid [] begun in (
+          subst (λ (l : List ℕ). AnsweredFirst start.told now.told (events_in bytes) l) (sym a.5) (AnsweredFirst-told start.told now.told (events_in bytes) front (off.1 ++ []) out split off.3.ends.ran.took),
+          fares honest moment left failed start now (events_in bytes) front (off.1 ++ []) out sent [] off.3.ends split (append-nil sent ∙ a.5) (λ _. none),
+          comes-by (fares honest moment left failed mid now [] here.0 here.1 [] [] [] here.3.ends here.2 refl (λ _. none)),
+          (off.3.is_why, none-failed now front out why off.3),
+        )

@@ -97,16 +97,14 @@ EndsBy-seen Truncated b c bytes sent at_end q = absurd q.4
 EndsBy-seen e b c bytes sent at_end q = q
 
 -- nothing more came
-pub nothing : (b : Told) (unanswered : List ℕ) → next unanswered ≡ Cut → Answered b b (unanswered ++ []) []
+pub nothing : (b : Told) (unanswered : List ℕ) → next unanswered ≡ Cut
+    → Answered b b (unanswered ++ []) [] × ((whole_frames (unanswered ++ [])).remainder ≡ Rest unanswered) × (0 ≡ length (whole_frames (unanswered ++ [])).events)
 nothing b unanswered cut =
-    let f : whole_frames (unanswered ++ []) ≡ record { events = []; remainder = Rest unanswered } = ap whole_frames (append-nil unanswered) ∙ framed_then_cut unanswered unanswered [] (Reads-nil unanswered) cut in
-    Answered-of b b (unanswered ++ []) [] (subst (λ (x : EventsAndRest). Progress b b x.events [] []) (sym f) (Progress-nil b [])) (λ h. h)
-
-pub nothing_stops : (unanswered : List ℕ) → next unanswered ≡ Cut → (whole_frames (unanswered ++ [])).remainder ≡ Rest unanswered
-nothing_stops unanswered cut = ap (λ (f : EventsAndRest). f.remainder) (ap whole_frames (append-nil unanswered) ∙ framed_then_cut unanswered unanswered [] (Reads-nil unanswered) cut)
-
-pub nothing_counts : (unanswered : List ℕ) → next unanswered ≡ Cut → 0 ≡ length (whole_frames (unanswered ++ [])).events
-nothing_counts unanswered cut = sym (ap (λ (f : EventsAndRest). length f.events) (ap whole_frames (append-nil unanswered) ∙ framed_then_cut unanswered unanswered [] (Reads-nil unanswered) cut))
+    let f : whole_frames (unanswered ++ []) ≡ record { events = []; remainder = Rest unanswered } = ap whole_frames (append-nil unanswered) ∙ framed_then_cut unanswered unanswered [] (Reads-nil unanswered) cut in (
+      Answered-of b b (unanswered ++ []) [] (subst (λ (x : EventsAndRest). Progress b b x.events [] []) (sym f) (Progress-nil b [])) (λ h. h),
+      ap (λ (x : EventsAndRest). x.remainder) f,
+      sym (ap (λ (x : EventsAndRest). length x.events) f),
+    )
 
 -- ---- how far a run has come
 

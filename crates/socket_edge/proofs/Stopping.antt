@@ -1,24 +1,17 @@
 -- A run that is stopped in its midst.
-use Rattle.std.proofs.Common.{◌≡◌, inl, inr, ℕ, ◌+◌, ◌-◌, ◌≤◌, List, [], ◌∷◌, ◌++◌, length, refl, sym, ap, ◌∙◌, subst, arith, append_assoc, length-append, Ok}
+use Rattle.std.proofs.Common.{◌≡◌, inl, inr, ℕ, ◌+◌, ◌-◌, ◌≤◌, List, [], ◌∷◌, ◌++◌, length, refl, sym, ap, ◌∙◌, subst, arith, append_assoc, length-append}
 use Rattle.std.proofs.lemmas.List.{append-nil, nil_from_length}
 use Rattle.disk_model.specs.Disk.{Files}
-use Rattle.machine.specs.Laws.{EventsAreJudgedOnce}
-use Rattle.machine.specs.declared.event.Answer.{Answer}
 use Rattle.machine.specs.declared.event.Event.{Event}
-use Rattle.gateway.specs.declared.fault.GatewayFault.{GatewayFault}
 use Rattle.gateway.specs.Kept.{Kept, IsAtRest}
-use Rattle.gateway.specs.Running.{Stands, CarriesOn, BreaksOff}
-use Rattle.gateway.proofs.Runs.{ended}
 use Rattle.frames.specs.Framing.{EventsAndRest}
 use Rattle.socket_edge.specs.Joined.{given_then, taken_then}
-use Rattle.socket_edge.specs.Progress.{Progress}
 use Rattle.socket_edge.specs.Running.{AtEachTurn, MayGoOn, ComesBy, Fares, Preserves, events_in}
-use Rattle.socket_edge.specs.Serving.{AsksFirst, AsksOnce, ComesByOne, SettledAndSent}
+use Rattle.socket_edge.specs.Serving.{AsksFirst, AsksOnce, ComesByOne}
 use Rattle.socket_edge.specs.Turns.{Turn, Took, WriteFailed, given, taken}
 use Rattle.socket_edge.proofs.Behind.{at_behind, at_last, at_mid, at_turn, by_at, by_both, by_first, by_next, by_then}
-use Rattle.socket_edge.proofs.Answers.{Progress-told}
-use Rattle.socket_edge.proofs.Closing.{events_cut, framed_then_cut}
-use Rattle.socket_edge.proofs.Lasting.{fares, preserves-behind, preserves-end, preserves-on, since-entry}
+use Rattle.socket_edge.proofs.Closing.{framed_then_cut}
+use Rattle.socket_edge.proofs.Lasting.{fares, preserves-behind, preserves-end, since-entry}
 use Rattle.socket_edge.proofs.Runs.{Going, Served-answered, going-ends}
 use Rattle.socket_edge.proofs.Talks.{Talked, first-nil, first-then, never_given, never_later, turn_of}
 
@@ -87,40 +80,6 @@ module _ {D : Type 0} (honest : D → Type 0) (moment : D → ℕ) (left : D →
 
   pub by-one-end : (a b : Kept D) (events : List Event) (sent : List ℕ) → Fares honest moment left a b events sent → ComesByOne honest moment left a b events sent
   by-one-end a b events sent f = record { now = b; comes = by-end a b events sent f }
-
-  -- ---- one exchange
-
-  module _ (seen : D → Files) (failed : D → ℕ) (reads : (disk : D) → honest disk → left disk (moment disk) (seen disk)) where
-    -- a compaction that ended well, and one that didn't
-    pub compacted-fares : (mid now : Kept D) → CarriesOn honest moment left failed mid now [] [] [] → Stands honest moment left failed mid mid [] [] → now.told.held ≡ [] → Fares honest moment left mid now [] []
-    compacted-fares mid now on begun none = fares honest moment left failed mid now [] [] [] [] [] [] (ended honest moment left seen failed reads earlier mid now [] [] (on mid [] begun)) refl refl (λ _. none)
-
-    pub stopped-fares : (mid now : Kept D) (why : GatewayFault) → BreaksOff honest moment left failed mid now [] [] [] why → Stands honest moment left failed mid mid [] [] → now.told.held ≡ [] → Fares honest moment left mid now [] []
-    stopped-fares mid now why breaks begun none =
-        let off = breaks mid [] begun in
-        fares honest moment left failed mid now [] off.0 off.1 [] [] [] off.3.ends off.2 refl (λ _. none)
-
-    -- what was answered was sent, and then the file was compacted
-    pub compacted-by : EventsAreJudgedOnce → (start mid now : Kept D) (bytes rest : List ℕ) (count : ℕ) (out : List (ℕ × Answer)) (sent : List ℕ) → SettledAndSent honest moment left failed (Ok count) start mid bytes rest out sent
-        → Fares honest moment left mid now [] [] → ComesByOne honest moment left start now (events_in bytes) sent
-    compacted-by once start mid now bytes rest count out sent a f =
-        let es = a.0 in
-        let s = a.4.stands in
-        let all : events_in bytes ≡ es = events_cut bytes rest es a.1 a.2 in
-        let until : Fares honest moment left start mid (events_in bytes) sent =
-        fares honest moment left failed start mid (events_in bytes) es [] out sent [] (ended honest moment left seen failed reads earlier start mid es out s) (all ∙ sym (append-nil es)) (append-nil sent ∙ a.5) (λ _. a.4.none) in
-        let p : Progress start.told mid.told es [] sent = subst (λ (l : List ℕ). Progress start.told mid.told es [] l) (sym a.5) (Progress-told start.told mid.told es out s.ran.took) in
-        record {
-          now = mid;
-          comes = record {
-            until = until;
-            since = λ ready.
-                let end = by-end start mid es sent (subst (λ (gs : List Event). Fares honest moment left start mid gs sent) all until) in
-                let kept = end.since ready in
-                subst (λ (gs : List Event). Preserves honest moment left start mid now gs sent) (append-nil es ∙ sym all)
-                (preserves-on honest moment left earlier start mid now es [] sent p (λ _. a.4.none) mid once sent [] (omega arith) ready (record { stands = s.stands; is_honest = s.ran.stays_honest s.stands ready.is_honest; none = a.4.none }) kept f);
-          };
-        }
 
   -- ---- a run
 
