@@ -1,7 +1,5 @@
 -- The end of the frames at the front.
-use Rattle.std.proofs.Common.{◌≡◌, ◌≢◌, ◌≤◌, ℕ, List, [], ◌++◌, true, false, refl, sym, ap, ◌∙◌, arith, append_assoc, subst, Result, Ok, Err}
-use Rattle.std.specs.List.{flat_map}
-use Rattle.std.proofs.lemmas.List.{append-nil}
+use Rattle.std.proofs.Common.{◌≡◌, ◌≢◌, ◌≤◌, ℕ, List, [], ◌++◌, true, false, refl, sym, ap, ◌∙◌, arith, append_assoc, subst, Result, Ok, Err, flat_map, append-nil}
 use Rattle.disk_model.specs.Disk.{Files}
 use Rattle.machine.specs.declared.event.Answer.{Answer}
 use Rattle.machine.specs.declared.event.Event.{Event}

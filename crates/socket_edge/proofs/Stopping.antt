@@ -1,6 +1,6 @@
 -- A run that is stopped in its midst.
-use Rattle.std.proofs.Common.{◌≡◌, inl, inr, ℕ, ◌+◌, ◌-◌, ◌≤◌, List, [], ◌∷◌, ◌++◌, length, refl, sym, ap, ◌∙◌, subst, arith, append_assoc, length-append}
-use Rattle.std.proofs.lemmas.List.{append-nil, nil_from_length}
+use Rattle.std.proofs.Common.{◌≡◌, inl, inr, ℕ, ◌+◌, ◌-◌, ◌≤◌, List, [], ◌∷◌, ◌++◌, length, refl, sym, ap, ◌∙◌, subst, arith, append_assoc, length-append, append-nil}
+use Rattle.std.proofs.lemmas.List.{nil_from_length}
 use Rattle.disk_model.specs.Disk.{Files}
 use Rattle.machine.specs.declared.event.Event.{Event}
 use Rattle.gateway.specs.Kept.{Kept, IsAtRest}

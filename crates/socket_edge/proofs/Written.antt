@@ -1,9 +1,7 @@
 -- A beginning of bytes, handed to a peer.
-use Rattle.std.proofs.Common.{◌≡◌, ℕ, ◌+◌, ◌-◌, ◌<◌, get_or, subst, List, [], ◌∷◌, ◌++◌, Result, IfErr, length, take, drop, sym, ap, ◌∙◌, append_assoc, length-drop}
-use Rattle.std.proofs.lemmas.List.{take-append-drop, append-nil}
+use Rattle.std.proofs.Common.{◌≡◌, ℕ, ◌+◌, ◌-◌, ◌<◌, get_or, subst, List, [], ◌∷◌, ◌++◌, Result, IfErr, length, take, drop, sym, ap, ◌∙◌, append_assoc, length-drop, take-append-drop, append-nil, flat_map}
 use Rattle.std.proofs.lemmas.List.Concat.{flat_map-append}
 use Rattle.std.proofs.Math.Seq.{take-length}
-use Rattle.std.specs.List.{flat_map}
 use Rattle.std.proofs.lemmas.Result.{IfErr-weaker}
 use Rattle.machine.specs.declared.event.Answer.{Answer}
 use Rattle.frames.specs.Answers.{frame}

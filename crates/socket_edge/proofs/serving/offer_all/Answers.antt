@@ -1,5 +1,4 @@
-use Rattle.std.proofs.Common.{[], ◌++◌, List, ℕ, ap, sym, ◌∙◌}
-use Rattle.std.proofs.lemmas.List.{append-nil}
+use Rattle.std.proofs.Common.{[], ◌++◌, List, ℕ, ap, sym, ◌∙◌, append-nil}
 use Rattle.frames.specs.Answers.{frames}
 use Rattle.frames.proofs.Fronts.{next_shorter}
 use Rattle.socket_edge.proofs.Answers.{frames-append}

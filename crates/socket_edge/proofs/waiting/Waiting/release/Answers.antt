@@ -1,5 +1,5 @@
-use Rattle.std.proofs.Common.{◌≡◌, ◌≤◌, ◌++◌, [], length, take, drop, ap, arith}
-use Rattle.std.proofs.lemmas.List.{drop_all, length-take-le}
+use Rattle.std.proofs.Common.{◌≡◌, ◌≤◌, ◌++◌, [], length, take, drop, ap, arith, length-take-le}
+use Rattle.std.proofs.lemmas.List.{drop_all}
 use Rattle.socket_edge.specs.Exchange.{Exchange}
 use Rattle.socket_edge.proofs.Placing.{whole-at}
 use Rattle.socket_edge.proofs.waiting.Waiting.release.Goals as goal
