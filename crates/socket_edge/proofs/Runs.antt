@@ -1,8 +1,8 @@
 -- A run: one read after the other.
-use Rattle.std.proofs.Common.{◌≡◌, ◌≢◌, ℕ, ◌+◌, ◌<◌, ◌≤◌, ◌^◌, List, [], ◌++◌, true, false, length, refl, sym, ap, ◌∙◌, arith, append_assoc, subst, length-append, flat_map, append-nil}
+use Rattle.std.proofs.Common.{◌≡◌, ℕ, ◌+◌, ◌<◌, ◌≤◌, List, [], ◌++◌, true, false, length, refl, sym, ap, ◌∙◌, arith, append_assoc, subst, length-append, flat_map, append-nil}
 use Rattle.std.proofs.lemmas.List.Concat.{flat_map-append}
 use Rattle.packet.specs.Config.{Config}
-use Rattle.disk_model.specs.Disk.{Files, Grew, LeavesOnly}
+use Rattle.disk_model.specs.Disk.{Files, LeavesOnly}
 use Rattle.disk_model.proofs.Moments.{narrows}
 use Rattle.durable.specs.Recovery.{IsConfigured}
 use Rattle.machine.specs.declared.event.Event.{Event}
@@ -17,7 +17,7 @@ use Rattle.frames.specs.Requests.{Cut, next}
 use Rattle.frames.specs.Framing.{EventsAndRest, Remainder, Rest, whole_frames}
 use Rattle.frames.specs.Answers.{frame}
 use Rattle.socket_edge.specs.Progress.{answers_due, AreFirst, Progress, AnsweredFirst, BeginsFrames}
-use Rattle.socket_edge.specs.Running.{Answered, EndsBy, AllAnswered, Explains, Fares, events_in}
+use Rattle.socket_edge.specs.Running.{Answered, EndsBy, AllAnswered, Fares, events_in}
 use Rattle.socket_edge.specs.Serving.{Served}
 use Rattle.frames.proofs.Frames.{next_nil}
 use Rattle.socket_edge.proofs.Reading.{Reads-nil, Reads-more, Reads-then}
@@ -170,43 +170,6 @@ module _ {D : Type 0} (honest : D → Type 0) (moment : D → ℕ) (left : D →
   going-stops a b given unanswered w n g none =
       subst (λ (x : List ℕ). Fares honest moment left a b (events_in x) w) (append-nil given)
       (subst (λ (x : List ℕ). Fares honest moment left a b (events_in (given ++ [])) x) (append-nil w) (going-ends a b b given unanswered [] w [] n g (none (events_in (unanswered ++ [])))))
-
-  -- the events have numbers of 64 bits, so their count has
-  pub going-fits : (a b c : Kept D) (given unanswered got rest w sent : List ℕ) (n m : ℕ) → Going a b given unanswered w n → Served b.told c.told (unanswered ++ got) rest sent m → c.told.last < 2 ^ 64 → n + m < 2 ^ 64
-  going-fits a b c given unanswered got rest w sent n m g q last =
-      let p = Served-then a.told b.told c.told given unanswered got rest w sent n m g.served q in
-      omega (arith, last, p.count_is, p.progress.took.last)
-
-  -- why it ends, said of the whole run
-  pub going-why : (a b c : Kept D) (given unanswered w : List ℕ) (n : ℕ) (e : EdgeFault) → Going a b given unanswered w n → Explains honest moment left failed e b c → Explains honest moment left failed e a c
-  going-why a b c given unanswered w n Output g x = record {
-    no_failure = λ up. x.no_failure up ∙ g.no_failure;
-    device = λ down. subst (λ (k : ℕ). Grew k (failed c.disk)) g.no_failure (x.device down);
-    by_one = omega (arith, x.by_one, g.no_failure);
-  }
-  going-why a b c given unanswered w n (Gateway fault) g x = (
-    record {
-      stood = x.0.stood;
-      made_room = x.0.made_room;
-      numbers_out = x.0.numbers_out;
-      fell = x.0.fell;
-      device = λ d. subst (λ (k : ℕ). Grew k (failed c.disk)) g.no_failure (x.0.device d);
-      by_one = omega (arith, x.0.by_one, g.no_failure);
-      generations = x.0.generations;
-    },
-    λ up. x.1 up ∙ g.no_failure,
-  )
-  going-why a b c given unanswered w n e g x = (x.0, x.1 ∙ g.no_failure)
-
-  -- a gateway that stood isn't to be opened again
-  pub not-reopen : (a c : Kept D) (e : EdgeFault) → Explains honest moment left failed e a c → e ≢ Gateway fault.Reopen
-  not-reopen a c e x is = (subst (λ (f : EdgeFault). Explains honest moment left failed f a c) is x).0.stood refl
-
-  -- room was made
-  pub not-full : (a c : Kept D) (e : EdgeFault) → Explains honest moment left failed e a c → (e ≢ Gateway fault.HeldFull) × (e ≢ Gateway fault.Full)
-  not-full a c e x =
-      let so : EdgeFault → Type 0 = λ (f : EdgeFault). Explains honest moment left failed f a c in
-      ((λ is. (subst so is x).0.made_room.0 refl), (λ is. (subst so is x).0.made_room.1 refl))
 
   -- it had fallen before: nothing is done
   pub fallen-fares : (start : Kept D) (events : List Event) → start.fallen ≡ true → Fares honest moment left start start events []
