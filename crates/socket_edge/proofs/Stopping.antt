@@ -69,10 +69,7 @@ module _ {D : Type 0} (honest : D → Type 0) (moment : D → ℕ) (left : D →
   }
 
   by-fewer : (a x b : Kept D) (so_far events : List Event) (short more : List ℕ) → ComesBy honest moment left a x b so_far events (short ++ more) → ComesBy honest moment left a x b so_far events short
-  by-fewer a x b so_far events short more by = record {
-    until = fares-fewer a x so_far short more by.until;
-    since = λ ready. preserves-fewer a x b events short more (by.since ready);
-  }
+  by-fewer a x b so_far events short more by = record { until = fares-fewer a x so_far short more by.until; since = λ ready. preserves-fewer a x b events short more (by.since ready) }
 
   -- at the end
   by-end : (a b : Kept D) (events : List Event) (sent : List ℕ) → Fares honest moment left a b events sent → ComesBy honest moment left a b b events events sent
@@ -92,12 +89,7 @@ module _ {D : Type 0} (honest : D → Type 0) (moment : D → ℕ) (left : D →
       pub are : so talked.turns
 
     pub stops-nil : (start : Kept D) → AtEachTurn honest moment left start start []
-    stops-nil start = record {
-      by = λ (before : List Turn). start;
-      first = refl;
-      last = refl;
-      each = λ before t after e. absurd (omega (arith, ap length e, length-append before (t ∷ after)));
-    }
+    stops-nil start = record { by = λ (before : List Turn). start; first = refl; last = refl; each = λ before t after e. absurd (omega (arith, ap length e, length-append before (t ∷ after))) }
 
     pub walked-first : (still : (peer : P) → went peer peer []) (start : Kept D) (a : P) → Fares honest moment left start start (events_in []) [] → (so : List Turn → Type 0) → so []
         → Walked so start start a a [] []
@@ -164,10 +156,7 @@ module _ {D : Type 0} (honest : D → Type 0) (moment : D → ℕ) (left : D →
       until-write front after e = going-ends honest moment left failed earlier start b mid x unanswered got y (taken front) n g (at-write front after e).until
 
       by-write : (front after : List Turn) → a.turns ≡ front ++ after → ComesBy honest moment left start mid c (events_in (x ++ got)) (events_in (x ++ got)) (y ++ taken front)
-      by-write front after e = record {
-        until = until-write front after e;
-        since = λ ready. later-preserves mid c (taken front) ready ((at-write front after e).since (rested ready));
-      }
+      by-write front after e = record { until = until-write front after e; since = λ ready. later-preserves mid c (taken front) ready ((at-write front after e).since (rested ready)) }
 
       exchange : (middle : List Turn) (t : Turn) (after : List Turn) → a.turns ≡ middle ++ t ∷ after
           → ComesBy honest moment left start (exchange_by middle) (exchange_by (middle ++ t ∷ [])) (events_in (given (ts ++ middle))) (events_in (given (ts ++ (middle ++ t ∷ [])))) (taken (ts ++ (middle ++ t ∷ [])))
@@ -220,10 +209,7 @@ module _ {D : Type 0} (honest : D → Type 0) (moment : D → ℕ) (left : D →
               by = by_both ts w.stops.by (at_turn b mid c a.turns);
               first = by_first ts w.stops.by (at_turn b mid c a.turns) start w.stops.first (sym w.stops.last);
               last = by_then ts a.turns w.stops.by (at_turn b mid c a.turns) ∙ at_last b mid c a.turns idle_is;
-              each = λ before turn after e. elim (turn_of ts a.turns before after turn e) [
-                | inl m ↦ then-earlier before m.0 turn m.1
-                | inr m ↦ then-later before m.0 after turn m.1 m.2
-              ];
+              each = λ before turn after e. elim (turn_of ts a.turns before after turn e) [ | inl m ↦ then-earlier before m.0 turn m.1 | inr m ↦ then-later before m.0 after turn m.1 m.2 ];
             };
             fares = going-ends honest moment left failed earlier start b c x unanswered got y sent n g f;
             are = is;
