@@ -1,5 +1,5 @@
 -- What is so behind each beginning of turns, of two lists of them one after the other.
-use Rattle.std.proofs.Common.{◌≡◌, List, [], ◌∷◌, ◌++◌, refl, sym, ap, ◌∙◌, subst, append_assoc, append-nil}
+use Rattle.std.proofs.Common.{◌≡◌, List, [], ◌∷◌, ◌++◌, refl, sym, ap, ◌∙◌, append_assoc, append-nil}
 use Rattle.socket_edge.specs.Turns.{Turn}
 
 module _ {T : Type 0} where

@@ -209,7 +209,7 @@ module _ {D : Type 0} (honest : D → Type 0) (moment : D → ℕ) (left : D →
               by = by_both ts w.stops.by (at_turn b mid c a.turns);
               first = by_first ts w.stops.by (at_turn b mid c a.turns) start w.stops.first (sym w.stops.last);
               last = by_then ts a.turns w.stops.by (at_turn b mid c a.turns) ∙ at_last b mid c a.turns idle_is;
-              each = λ before turn after e. elim (turn_of ts a.turns before after turn e) [ | inl m ↦ then-earlier before m.0 turn m.1 | inr m ↦ then-later before m.0 after turn m.1 m.2 ];
+              each = λ before turn after e. elim (turn_of ts a.turns before after turn e) [ inl m ↦ then-earlier before m.0 turn m.1 | inr m ↦ then-later before m.0 after turn m.1 m.2 ];
             };
             fares = going-ends honest moment left failed earlier start b c x unanswered got y sent n g f;
             are = is;
