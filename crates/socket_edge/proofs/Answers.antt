@@ -1,14 +1,12 @@
 -- Laws of what has been answered.
-use Rattle.std.proofs.Common.{◌≡◌, ℕ, ◌+◌, List, [], ◌∷◌, ◌++◌, length, refl, sym, ap, ◌∙◌, arith, append_assoc, length-append, subst}
-use Rattle.std.specs.List.{flat_map}
-use Rattle.std.proofs.lemmas.List.{append-nil}
+use Rattle.std.proofs.Common.{◌≡◌, ℕ, ◌+◌, List, [], ◌∷◌, ◌++◌, length, refl, sym, ap, ◌∙◌, arith, append_assoc, length-append, subst, flat_map, append-nil}
 use Rattle.std.proofs.lemmas.List.Concat.{flat_map-append}
 use Rattle.packet.specs.Config.{Config}
 use Rattle.machine.specs.declared.event.Event.{Event}
 use Rattle.machine.specs.declared.event.Answer.{Answer}
 use Rattle.machine.specs.Judged.{Judged, AreJudged}
 use Rattle.machine.specs.Laws.{EventsAreJudgedOnce}
-use Rattle.machine.specs.Machine.{after, answers, numbered}
+use Rattle.machine.specs.Machine.{after, answers}
 use Rattle.gateway.specs.Told.{Told, TookAll}
 use Rattle.machine.proofs.Judging.{AreJudged-append, AreJudged-length}
 use Rattle.gateway.proofs.Taking.{after-append, answers-append, length-answers, numbered-append, took_none}
@@ -24,8 +22,7 @@ replies-append old middle es fs c s l =
     let a : answers old.config old.state (es ++ fs) ≡ answers old.config old.state es ++ answers middle.config middle.state fs =
     answers-append old.config old.state es fs ∙ ap (λ (xs : List Answer). answers old.config old.state es ++ xs) t in
     let n : old.last + length (answers old.config old.state es) ≡ middle.last = omega (arith, length-answers old.config old.state es, l) in
-    ap (numbered old.last) a ∙ numbered-append old.last (answers old.config old.state es) (answers middle.config middle.state fs)
-    ∙ ap (λ (k : ℕ). numbered old.last (answers old.config old.state es) ++ numbered k (answers middle.config middle.state fs)) n
+    rw (a, numbered-append old.last (answers old.config old.state es) (answers middle.config middle.state fs), n) refl
 
 pub answers_due-append : (old middle : Told) (es fs : List Judged) (handed : List (ℕ × Answer)) → middle.config ≡ old.config → middle.state ≡ after old.config old.state es → middle.last ≡ old.last + length es
     → handed ++ middle.held ≡ answers_due old es → handed ++ answers_due middle fs ≡ answers_due old (es ++ fs)
@@ -97,11 +94,7 @@ reached-told old new events out t = record { config = t.config; state = t.state;
 
 -- the first of the events were taken
 pub AnsweredFirst-told : (old new : Told) (events front back : List Event) (out : List (ℕ × Answer)) → events ≡ front ++ back → TookAll old new front out → AnsweredFirst old new events (flat_map frame out)
-AnsweredFirst-told old new events front back out split t = record {
-  handed = out;
-  took = record { front = front; back = back; split = split; took = t };
-  sent_are = refl;
-}
+AnsweredFirst-told old new events front back out split t = record { handed = out; took = record { front = front; back = back; split = split; took = t }; sent_are = refl }
 
 -- and a beginning of the frames was sent
 pub BeginsFrames-told : (old new : Told) (events front back : List Event) (out : List (ℕ × Answer)) (sent lost : List ℕ) → events ≡ front ++ back → TookAll old new front out

@@ -1,6 +1,5 @@
 -- What is so behind each beginning of turns, of two lists of them one after the other.
-use Rattle.std.proofs.Common.{◌≡◌, List, [], ◌∷◌, ◌++◌, refl, sym, ap, ◌∙◌, subst, append_assoc}
-use Rattle.std.proofs.lemmas.List.{append-nil}
+use Rattle.std.proofs.Common.{◌≡◌, List, [], ◌∷◌, ◌++◌, refl, sym, ap, ◌∙◌, append_assoc, append-nil}
 use Rattle.socket_edge.specs.Turns.{Turn}
 
 module _ {T : Type 0} where
@@ -47,11 +46,8 @@ module _ {T : Type 0} where
 
   -- what is so of the last and of the other is so behind each of the turns
   at_some : (one mid last : T) (turns before rest : List Turn) (b : Turn) (so : T → Type 0) → turns ≡ (b ∷ before) ++ rest → so mid → so last → so (at_turn one mid last turns (b ∷ before))
-  at_some one mid last turns before [] b so e m l =
-      subst so
-      (sym (ap (λ (ts : List Turn). by_both turns (λ (ts : List Turn). mid) (λ (ts : List Turn). last) ts) (sym (e ∙ append-nil (b ∷ before))) ∙ by_end turns (λ (ts : List Turn). mid) (λ (ts : List Turn). last)))
-      l
-  at_some one mid last turns before (r ∷ rest) b so e m l = subst so (sym (at_mid one mid last turns before rest b r e)) m
+  at_some one mid last turns before [] b so e m l = let all : turns ≡ b ∷ before = e ∙ append-nil (b ∷ before) in rw (all, by_end (b ∷ before) (λ (ts : List Turn). mid) (λ (ts : List Turn). last)) l
+  at_some one mid last turns before (r ∷ rest) b so e m l = rw (at_mid one mid last turns before rest b r e) m
 
   pub at_behind : (one mid last : T) (turns before rest : List Turn) (t : Turn) (so : T → Type 0) → turns ≡ before ++ t ∷ rest → so mid → so last → so (at_turn one mid last turns (before ++ t ∷ []))
   at_behind one mid last turns [] rest t so e m l = at_some one mid last turns [] rest t so e m l

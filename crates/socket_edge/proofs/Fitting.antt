@@ -1,25 +1,18 @@
 -- Bytes of bytes, and packets of what was read.
-use Rattle.std.proofs.Common.{◌≡◌, ◌<◌, ◌+◌, ◌↔◌, ℕ, zero, suc, List, [], ◌∷◌, ◌++◌, take, length, refl, ap, subst, ◌∙◌, arith, append_assoc}
-use Rattle.std.specs.Prelude.{slice_index}
-use Rattle.std.specs.List.{flat_map}
+use Rattle.std.proofs.Common.{◌≡◌, ◌<◌, ◌+◌, ◌↔◌, ℕ, zero, suc, List, [], ◌∷◌, ◌++◌, take, drop, take-append-drop, length, refl, sym, ap, subst, ◌∙◌, arith, append_assoc, flat_map}
 use Rattle.packet.specs.Laws.{AreBytes}
-use Rattle.packet.specs.declared.endpoint.Iface.{Iface}
 use Rattle.machine.specs.declared.event.Event.{Event}
 use Rattle.machine.specs.declared.event.What.{What}
-use Rattle.machine.specs.declared.event.What.TheVariants.{Packet}
 use Rattle.frames.specs.Framing.{EventsAndRest, whole_frames}
 use Rattle.frames.specs.Streams.{IsStream, header, interface_of, kind_of, request, request_body}
-use Rattle.socket_edge.specs.Running.{PacketsAreBytes, events_in}
+use Rattle.socket_edge.specs.Running.{PacketsAreBytes}
 
 pub none-fit : AreBytes []
 none-fit = λ k. omega arith
 
 first-fit : (x : ℕ) (xs : List ℕ) → x < 256 → AreBytes xs → AreBytes (x ∷ xs)
-first-fit x xs h t = each
-  where
-    each : (i : ℕ) → slice_index (x ∷ xs) i < 256
-    each zero = h
-    each (suc i) = t i
+first-fit x xs h t zero = h
+first-fit x xs h t (suc i) = t i
 
 pub fit-then : (xs ys : List ℕ) → AreBytes xs → AreBytes ys → AreBytes (xs ++ ys)
 fit-then [] ys h t = t
@@ -34,9 +27,7 @@ front-fit [] more h = none-fit
 front-fit (x ∷ xs) more h = first-fit x xs (h 0) (front-fit xs more (λ k. h (suc k)))
 
 take-fit : (n : ℕ) (xs : List ℕ) → AreBytes xs → AreBytes (take n xs)
-take-fit zero xs h = none-fit
-take-fit (suc n) [] h = none-fit
-take-fit (suc n) (x ∷ xs) h = first-fit x (take n xs) (h 0) (take-fit n xs (λ k. h (suc k)))
+take-fit n xs h = front-fit (take n xs) (drop n xs) (subst AreBytes (sym (take-append-drop n xs)) h)
 
 pub came-fit : (front came rest : List ℕ) (n : ℕ) → AreBytes (front ++ (came ++ rest)) → AreBytes (take n came)
 came-fit front came rest n h = take-fit n came (front-fit came rest (behind-fit front (came ++ rest) h))

@@ -1,6 +1,5 @@
 -- A run of the edge in the life of a gateway.
-use Rattle.std.proofs.Common.{ℕ, ◌≤◌, List, ◌++◌, arith, sym, ◌∙◌, ap, subst}
-use Rattle.std.proofs.lemmas.List.{append-nil}
+use Rattle.std.proofs.Common.{ℕ, ◌≤◌, List, ◌++◌, arith, sym, ◌∙◌, ap, subst, append-nil}
 use Rattle.disk_model.specs.Disk.{Files}
 use Rattle.disk_model.proofs.Moments.{only_now}
 use Rattle.durable.specs.Recovery.{IsConfigured}

@@ -1,6 +1,5 @@
 -- What the loop over the frames keeps.
-use Rattle.std.proofs.Common.{◌≡◌, ℕ, List, [], ◌∷◌, ◌++◌, sym, append_assoc, subst}
-use Rattle.std.proofs.lemmas.List.{append-nil}
+use Rattle.std.proofs.Common.{◌≡◌, ℕ, List, [], ◌∷◌, ◌++◌, sym, append_assoc, subst, append-nil}
 use Rattle.disk_model.specs.Disk.{Files}
 use Rattle.machine.specs.declared.event.Answer.{Answer}
 use Rattle.machine.specs.declared.event.Event.{Event}
@@ -10,8 +9,7 @@ use Rattle.gateway.specs.Running.{BreaksOff, CarriesOn, Stands}
 use Rattle.gateway.proofs.Runs.{breaks-then, carries-none, carries-then}
 use Rattle.socket_edge.specs.declared.serving.Halt.{Halt}
 use Rattle.socket_edge.specs.declared.serving.Halt.TheVariants as halt
-use Rattle.frames.specs.declared.fault.HeaderFault.{HeaderFault}
-use Rattle.frames.specs.Requests.{Bad, Cut, Whole, next}
+use Rattle.frames.specs.Requests.{Whole, next}
 use Rattle.socket_edge.specs.Serving.{Reads, Offered}
 use Rattle.socket_edge.proofs.Reading.{Reads-nil, Reads-whole}
 
@@ -45,12 +43,6 @@ module _ {D : Type 0} (honest : D → Type 0) (moment : D → ℕ) (left : D →
   -- ---- the loop's end
 
   module _ (old now : Kept D) (bytes rest : List ℕ) (handed : List (ℕ × Answer)) (s : SoFar old now bytes rest handed) where
-    pub SoFar-cut : next rest ≡ Cut → (before : List (ℕ × Answer)) → Offered honest moment left failed halt.Cut bytes rest old now before (before ++ handed)
-    SoFar-cut cut before = (s.events, s.reads, cut, s.carries before)
-
-    pub SoFar-bad : (fault : HeaderFault) → next rest ≡ Bad fault → (before : List (ℕ × Answer)) → Offered honest moment left failed (halt.Bad fault) bytes rest old now before (before ++ handed)
-    SoFar-bad fault bad before = (s.events, s.reads, bad, s.carries before)
-
     pub SoFar-refused : (new : Kept D) (event : Event) (later last : List ℕ) (more : List (ℕ × Answer)) (fault : GatewayFault) → next rest ≡ Whole event later
         → ((before : List (ℕ × Answer)) → BreaksOff honest moment left failed now new (event ∷ []) before (before ++ more) fault)
         → (before : List (ℕ × Answer)) → Offered honest moment left failed (halt.Refused fault) bytes last old new before (before ++ (handed ++ more))
@@ -65,6 +57,5 @@ module _ {D : Type 0} (honest : D → Type 0) (moment : D → ℕ) (left : D →
   -- answers that were held are handed out before
   pub Offered-behind : (old now new : Kept D) (s : Halt) (bytes rest : List ℕ) (a b c : List (ℕ × Answer)) → CarriesOn honest moment left failed old now [] a b
       → Offered honest moment left failed s bytes rest now new b c → Offered honest moment left failed s bytes rest old new a c
-  Offered-behind old now new halt.Cut bytes rest a b c first t = (t.0, t.1, t.2, carries-then honest moment left failed old now new [] t.0 a b c first t.3)
-  Offered-behind old now new (halt.Bad fault) bytes rest a b c first t = (t.0, t.1, t.2, carries-then honest moment left failed old now new [] t.0 a b c first t.3)
   Offered-behind old now new (halt.Refused fault) bytes rest a b c first t = (t.0, t.1, t.2, breaks-then honest moment left failed old now new [] t.0 a b c fault first t.3)
+  Offered-behind old now new s bytes rest a b c first t = (t.0, t.1, t.2, carries-then honest moment left failed old now new [] t.0 a b c first t.3)

@@ -1,23 +1,9 @@
 -- Where the frames of held answers begin, among the frames of all answers.
-use Rattle.std.proofs.Common.{◌≡◌, ◌≢◌, ℕ, ◌+◌, ◌<◌, ◌≤◌, List, [], ◌∷◌, ◌++◌, length, take, drop, refl, sym, ap, ◌∙◌, arith, length-append}
-use Rattle.std.specs.List.{flat_map}
-use Rattle.std.proofs.lemmas.List.{append-nil, length-take-le, take-append-drop}
-use Rattle.std.proofs.Math.Seq.{take-append_seam}
+use Rattle.std.proofs.Common.{◌≡◌, ◌≢◌, ℕ, ◌+◌, ◌<◌, ◌≤◌, List, [], ◌∷◌, ◌++◌, length, take, drop, refl, sym, ap, ◌∙◌, arith, length-append, flat_map, append-nil, length-take-le, take-append-drop, take-take}
+use Rattle.std.proofs.Math.Seq.{drop-append_seam, take-append_seam}
 use Rattle.machine.specs.declared.event.Answer.{Answer}
 use Rattle.frames.specs.Answers.{frame, frames}
 use Rattle.socket_edge.proofs.Answers.{frames-append}
-use Rattle.socket_edge.proofs.Memory.{take_front}
-
--- lists that begin with lists of one length
-same_parts : {X : Type 0} (a b c d : List X) → length a ≡ length c → a ++ b ≡ c ++ d → (a ≡ c) × (b ≡ d)
-same_parts [] b [] d l e = (refl, e)
-same_parts [] b (y ∷ c) d l e = absurd (omega (arith, l))
-same_parts (x ∷ a) b [] d l e = absurd (omega (arith, l))
-same_parts (x ∷ a) b (y ∷ c) d l e =
-    let head : x ≡ y = cc in
-    let tail : a ++ b ≡ c ++ d = cc in
-    let rest = same_parts a b c d (omega (arith, l)) tail in
-    (rw (head, rest.0) refl, rest.1)
 
 -- behind frames that were handed out stand those of these answers
 abbrev Behind : List ℕ → List (ℕ × Answer) → ℕ
@@ -36,7 +22,8 @@ at-next : (answered : List ℕ) (old new out : List (ℕ × Answer)) (at before 
 at-next answered old [] out at before last end begins alone none one more answer order few all = handed-all answered (old ++ answer ∷ []) out [] at order refl (none refl ∙ all)
 at-next answered old (x ∷ []) out at before last end begins alone none one more answer order few all =
     let size : length out ≡ length old = omega (arith, ap length order, length-append out (x ∷ []), length-append old (answer ∷ [])) in
-    one refl ∙ alone ∙ ap (Behind answered) (sym (same_parts out (x ∷ []) old (answer ∷ []) size order).0)
+    let same : out ≡ old = sym (take-append_seam out (x ∷ [])) ∙ ap (take (length out)) order ∙ ap (λ (n : ℕ). take n (old ++ answer ∷ [])) size ∙ take-append_seam old (answer ∷ []) in
+    one refl ∙ alone ∙ ap (Behind answered) (sym same)
 at-next answered old (x ∷ y ∷ xs) out at before last end begins alone none one more answer order few all =
     let many : 1 < length (x ∷ y ∷ xs) = omega arith in handed-none answered out at before begins (few many) (more many)
 
@@ -49,20 +36,16 @@ at-fault answered old (x ∷ []) out at before end begins none one more order fe
 at-fault answered old (x ∷ y ∷ xs) out at before end begins none one more order few all = handed-none answered out at before begins (few (λ e. absurd cc)) (more (omega arith))
 
 -- the bytes up to a place, and those from there on
-pub parts-at : (at end : ℕ) (bytes answered held : List ℕ) → at ≤ end → end ≤ length bytes → take end bytes ≡ answered ++ held → at ≡ length answered
+pub parts-at : (at end : ℕ) (bytes answered held : List ℕ) → at ≤ end → take end bytes ≡ answered ++ held → at ≡ length answered
     → (take at bytes ≡ answered) × (drop at (take end bytes) ≡ held)
-parts-at at end bytes answered held within fits is size = (
-  take_front at end bytes within fits ∙ ap (take at) is ∙ ap (λ (n : ℕ). take n (answered ++ held)) size ∙ take-append_seam answered held,
-  ap (drop at) is ∙ ap (λ (n : ℕ). drop n (answered ++ held)) size ∙ drop-all answered held,
+parts-at at end bytes answered held within is size = (
+  sym (take-take at end bytes within) ∙ ap (take at) is ∙ ap (λ (n : ℕ). take n (answered ++ held)) size ∙ take-append_seam answered held,
+  ap (drop at) is ∙ ap (λ (n : ℕ). drop n (answered ++ held)) size ∙ drop-append_seam answered held,
 )
-  where
-    drop-all : (xs ys : List ℕ) → drop (length xs) (xs ++ ys) ≡ ys
-    drop-all [] ys = refl
-    drop-all (x ∷ xs) ys = drop-all xs ys
 
 -- and both together
-pub whole-at : (at end : ℕ) (bytes : List ℕ) → at ≤ end → end ≤ length bytes → take end bytes ≡ take at bytes ++ drop at (take end bytes)
-whole-at at end bytes within fits = sym (take-append-drop at (take end bytes)) ∙ ap (λ (xs : List ℕ). xs ++ drop at (take end bytes)) (sym (take_front at end bytes within fits))
+pub whole-at : (at end : ℕ) (bytes : List ℕ) → at ≤ end → take end bytes ≡ take at bytes ++ drop at (take end bytes)
+whole-at at end bytes within = sym (take-append-drop at (take end bytes)) ∙ ap (λ (xs : List ℕ). xs ++ drop at (take end bytes)) (take-take at end bytes within)
 
 -- the frames of the answers in front, parted anew
 parted : (answered : List ℕ) (old out new : List (ℕ × Answer)) → out ++ new ≡ old → answered ++ flat_map frame old ≡ (answered ++ flat_map frame out) ++ flat_map frame new
@@ -76,7 +59,7 @@ module _ (a h : ℕ) (xs answered : List ℕ) (old new out : List (ℕ × Answer
   begins = sym (length-take-le a xs (omega (arith, first, fits))) ∙ ap length front
 
   whole : take h xs ≡ answered ++ flat_map frame old
-  whole = whole-at a h xs first fits ∙ ap (λ (zs : List ℕ). zs ++ drop a (take h xs)) front ∙ ap (λ (zs : List ℕ). answered ++ zs) are
+  whole = whole-at a h xs first ∙ ap (λ (zs : List ℕ). zs ++ drop a (take h xs)) front ∙ ap (λ (zs : List ℕ). answered ++ zs) are
 
   -- the frame of one more answer stands behind them
   pub taken-in : (k : ℕ) (ws : List ℕ) (answer : ℕ × Answer) → h + k ≤ length ws → take (h + k) ws ≡ take h xs ++ frame answer → out ++ new ≡ old ++ answer ∷ [] → (1 < length new → out ≡ [])
@@ -84,7 +67,7 @@ module _ (a h : ℕ) (xs answered : List ℕ) (old new out : List (ℕ × Answer
       → (take at ws ≡ answered ++ frames out) × (drop at (take (h + k) ws) ≡ frames new)
   taken-in k ws answer long there order few none one more within =
       let all : take (h + k) ws ≡ answered ++ flat_map frame (old ++ answer ∷ []) = there ∙ ap (λ (zs : List ℕ). zs ++ frame answer) whole ∙ one-more answered old answer in
-      parts-at at (h + k) ws (answered ++ frames out) (frames new) within long (all ∙ parted answered (old ++ answer ∷ []) out new order)
+      parts-at at (h + k) ws (answered ++ frames out) (frames new) within (all ∙ parted answered (old ++ answer ∷ []) out new order)
       (at-next answered old new out at a h (h + k) begins (sym (length-take-le h xs fits) ∙ ap length whole) none one more answer order few (sym (length-take-le (h + k) ws long) ∙ ap length all))
 
   -- nothing does
@@ -93,5 +76,5 @@ module _ (a h : ℕ) (xs answered : List ℕ) (old new out : List (ℕ × Answer
       → (take at ws ≡ answered ++ frames out) × (drop at (take h ws) ≡ frames new)
   refused-in ws long there order few none one more within =
       let all : take h ws ≡ answered ++ flat_map frame old = there ∙ whole in
-      parts-at at h ws (answered ++ frames out) (frames new) within long (all ∙ parted answered old out new order)
+      parts-at at h ws (answered ++ frames out) (frames new) within (all ∙ parted answered old out new order)
       (at-fault answered old new out at a h begins none one more order few (sym (length-take-le h ws long) ∙ ap length all))

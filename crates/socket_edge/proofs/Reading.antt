@@ -1,6 +1,5 @@
 -- Laws of what a stream reads as so far.
-use Rattle.std.proofs.Common.{◌≡◌, ℕ, List, [], ◌∷◌, ◌++◌, refl, sym, ap, ◌∙◌, append_assoc}
-use Rattle.std.proofs.lemmas.List.{append-nil}
+use Rattle.std.proofs.Common.{◌≡◌, ℕ, List, [], ◌∷◌, ◌++◌, refl, sym, ap, ◌∙◌, append_assoc, append-nil}
 use Rattle.machine.specs.declared.event.Event.{Event}
 use Rattle.frames.specs.Requests.{Whole, next}
 use Rattle.frames.specs.Framing.{EventsAndRest, with_first, whole_frames}

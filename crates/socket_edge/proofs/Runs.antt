@@ -1,10 +1,8 @@
 -- A run: one read after the other.
-use Rattle.std.proofs.Common.{◌≡◌, ◌≢◌, ℕ, ◌+◌, ◌<◌, ◌≤◌, ◌^◌, List, [], ◌++◌, true, false, length, refl, sym, ap, ◌∙◌, arith, append_assoc, subst, length-append}
-use Rattle.std.specs.List.{flat_map}
-use Rattle.std.proofs.lemmas.List.{append-nil}
+use Rattle.std.proofs.Common.{◌≡◌, ℕ, ◌+◌, ◌<◌, ◌≤◌, List, [], ◌++◌, true, false, length, refl, sym, ap, ◌∙◌, arith, append_assoc, subst, length-append, flat_map, append-nil}
 use Rattle.std.proofs.lemmas.List.Concat.{flat_map-append}
 use Rattle.packet.specs.Config.{Config}
-use Rattle.disk_model.specs.Disk.{Files, Grew, LeavesOnly}
+use Rattle.disk_model.specs.Disk.{Files, LeavesOnly}
 use Rattle.disk_model.proofs.Moments.{narrows}
 use Rattle.durable.specs.Recovery.{IsConfigured}
 use Rattle.machine.specs.declared.event.Event.{Event}
@@ -14,22 +12,18 @@ use Rattle.gateway.specs.Running.{Stands}
 use Rattle.gateway.specs.Told.{Told}
 use Rattle.gateway.proofs.Runs.{safe-less, true-false}
 use Rattle.socket_edge.specs.declared.fault.EdgeFault.{EdgeFault}
-use Rattle.socket_edge.specs.declared.fault.EdgeFault.TheVariants.{BadKind, BadInterface, TooLong, Truncated, Input, Output, Gateway}
+use Rattle.socket_edge.specs.declared.fault.EdgeFault.TheVariants.{Truncated, Input, Output, Gateway}
 use Rattle.frames.specs.Requests.{Cut, next}
-use Rattle.frames.specs.Framing.{EventsAndRest, Remainder, Rest, with_first, whole_frames}
+use Rattle.frames.specs.Framing.{EventsAndRest, Remainder, Rest, whole_frames}
 use Rattle.frames.specs.Answers.{frame}
 use Rattle.socket_edge.specs.Progress.{answers_due, AreFirst, Progress, AnsweredFirst, BeginsFrames}
-use Rattle.socket_edge.specs.Running.{Answered, EndsBy, AllAnswered, Explains, Fares, events_in}
-use Rattle.socket_edge.specs.Serving.{Reads, Served}
+use Rattle.socket_edge.specs.Running.{Answered, EndsBy, AllAnswered, Fares, events_in}
+use Rattle.socket_edge.specs.Serving.{Served}
 use Rattle.frames.proofs.Frames.{next_nil}
 use Rattle.socket_edge.proofs.Reading.{Reads-nil, Reads-more, Reads-then}
 use Rattle.socket_edge.proofs.Answers.{AnsweredFirst-then, Progress-nil, Progress-then, Reached-then, answers_due-append, answers_due-is, first-then, last_of, reached-told}
 use Rattle.socket_edge.proofs.Lasting.{any-then, configured-then, fares-then}
 use Rattle.socket_edge.proofs.Closing.{events_cut, framed_then_cut, Answered-of}
-
--- the events of the bytes that came before, and of those that come
-pub framed_more : (given unanswered got : List ℕ) (events : List Event) → Reads given events unanswered → whole_frames (given ++ got) ≡ with_first events (whole_frames (unanswered ++ got))
-framed_more given unanswered got events r = r.goes got
 
 -- behind what was sent before
 Progress-shift : (old new : Told) (events : List Event) (before out : List ℕ) → Progress old new events [] out → Progress old new events before (before ++ out)
@@ -51,12 +45,12 @@ Served-then a b c given unanswered got rest w sent n m p q = record {
 answered_then : (a b c : Told) (given unanswered got w sent : List ℕ) (n : ℕ) → Served a b given unanswered w n → Answered b c (unanswered ++ got) sent → Answered a c (given ++ got) (w ++ sent)
 answered_then a b c given unanswered got w sent n p q =
     Answered-of a c (given ++ got) (w ++ sent)
-    (subst (λ (f : EventsAndRest). Progress a c f.events [] (w ++ sent)) (sym (framed_more given unanswered got p.events p.reads))
+    (subst (λ (f : EventsAndRest). Progress a c f.events [] (w ++ sent)) (sym (p.reads.goes got))
     (Progress-then a b c p.events (whole_frames (unanswered ++ got)).events [] w (w ++ sent) p.progress (Progress-shift b c (whole_frames (unanswered ++ got)).events w sent q.progress)))
     (λ h. q.none (p.none h))
 
 stop_then : (a b : Told) (given unanswered got w : List ℕ) (n : ℕ) (s : Remainder) → Served a b given unanswered w n → (whole_frames (unanswered ++ got)).remainder ≡ s → (whole_frames (given ++ got)).remainder ≡ s
-stop_then a b given unanswered got w n s p e = ap (λ (f : EventsAndRest). f.remainder) (framed_more given unanswered got p.events p.reads) ∙ e
+stop_then a b given unanswered got w n s p e = ap (λ (f : EventsAndRest). f.remainder) (p.reads.goes got) ∙ e
 
 begins_then : (a b c : Told) (es fs : List Event) (w sent : List ℕ) → Progress a b es [] w → BeginsFrames b c fs sent → BeginsFrames a c (es ++ fs) (w ++ sent)
 begins_then a b c es fs w sent p q =
@@ -72,23 +66,21 @@ begins_then a b c es fs w sent p q =
     }
 
 pub EndsBy-then : (e : EdgeFault) (a b c : Told) (given unanswered got w sent : List ℕ) (n : ℕ) (at_end : Type 0) → Served a b given unanswered w n → EndsBy e b c (unanswered ++ got) sent at_end → EndsBy e a c (given ++ got) (w ++ sent) at_end
-EndsBy-then BadKind a b c given unanswered got w sent n at_end p q = (stop_then a b given unanswered got w n _ p q.0, answered_then a b c given unanswered got w sent n p q.1)
-EndsBy-then BadInterface a b c given unanswered got w sent n at_end p q = (stop_then a b given unanswered got w n _ p q.0, answered_then a b c given unanswered got w sent n p q.1)
-EndsBy-then TooLong a b c given unanswered got w sent n at_end p q = (stop_then a b given unanswered got w n _ p q.0, answered_then a b c given unanswered got w sent n p q.1)
 EndsBy-then Truncated a b c given unanswered got w sent n at_end p q = (q.0, stop_then a b given unanswered got w n _ p q.1, q.2, answered_then a b c given unanswered got w sent n p q.3, q.4)
 EndsBy-then Input a b c given unanswered got w sent n at_end p q = answered_then a b c given unanswered got w sent n p q
 EndsBy-then Output a b c given unanswered got w sent n at_end p q =
-    let f : (whole_frames (given ++ got)).events ≡ p.events ++ (whole_frames (unanswered ++ got)).events = ap (λ (x : EventsAndRest). x.events) (framed_more given unanswered got p.events p.reads) in
+    let f : (whole_frames (given ++ got)).events ≡ p.events ++ (whole_frames (unanswered ++ got)).events = ap (λ (x : EventsAndRest). x.events) (p.reads.goes got) in
     subst (λ (es : List Event). BeginsFrames a c es (w ++ sent)) (sym f) (begins_then a b c p.events (whole_frames (unanswered ++ got)).events w sent p.progress q)
 EndsBy-then (Gateway fault) a b c given unanswered got w sent n at_end p q =
-    subst (λ (f : EventsAndRest). AnsweredFirst a c f.events (w ++ sent)) (sym (framed_more given unanswered got p.events p.reads))
+    subst (λ (f : EventsAndRest). AnsweredFirst a c f.events (w ++ sent)) (sym (p.reads.goes got))
     (AnsweredFirst-then a b c p.events (whole_frames (unanswered ++ got)).events w sent p.progress q)
+EndsBy-then e a b c given unanswered got w sent n at_end p q = (stop_then a b given unanswered got w n _ p q.0, answered_then a b c given unanswered got w sent n p q.1)
 
 pub AllAnswered-then : (a b c : Told) (given unanswered got w sent : List ℕ) (n m : ℕ) (at_end : Type 0) → Served a b given unanswered w n → AllAnswered m b c (unanswered ++ got) sent at_end → AllAnswered (n + m) a c (given ++ got) (w ++ sent) at_end
 AllAnswered-then a b c given unanswered got w sent n m at_end p q = record {
   answered = answered_then a b c given unanswered got w sent n p q.answered;
   whole = stop_then a b given unanswered got w n _ p q.whole;
-  count_is = omega (arith, p.count_is, q.count_is, length-append p.events (whole_frames (unanswered ++ got)).events, ap (λ (f : EventsAndRest). length f.events) (framed_more given unanswered got p.events p.reads));
+  count_is = omega (arith, p.count_is, q.count_is, length-append p.events (whole_frames (unanswered ++ got)).events, ap (λ (f : EventsAndRest). length f.events) (p.reads.goes got));
   ended = q.ended;
 }
 
@@ -99,25 +91,18 @@ Served-answered a b given unanswered w n p =
 
 -- no end of the input was seen
 pub EndsBy-seen : (e : EdgeFault) (b c : Told) (bytes sent : List ℕ) (at_end : Type 0) → EndsBy e b c bytes sent ⊥ → EndsBy e b c bytes sent at_end
-EndsBy-seen BadKind b c bytes sent at_end q = q
-EndsBy-seen BadInterface b c bytes sent at_end q = q
-EndsBy-seen TooLong b c bytes sent at_end q = q
 EndsBy-seen Truncated b c bytes sent at_end q = absurd q.4
-EndsBy-seen Input b c bytes sent at_end q = q
-EndsBy-seen Output b c bytes sent at_end q = q
-EndsBy-seen (Gateway fault) b c bytes sent at_end q = q
+EndsBy-seen e b c bytes sent at_end q = q
 
 -- nothing more came
-pub nothing : (b : Told) (unanswered : List ℕ) → next unanswered ≡ Cut → Answered b b (unanswered ++ []) []
+pub nothing : (b : Told) (unanswered : List ℕ) → next unanswered ≡ Cut
+    → Answered b b (unanswered ++ []) [] × ((whole_frames (unanswered ++ [])).remainder ≡ Rest unanswered) × (0 ≡ length (whole_frames (unanswered ++ [])).events)
 nothing b unanswered cut =
-    let f : whole_frames (unanswered ++ []) ≡ record { events = []; remainder = Rest unanswered } = ap whole_frames (append-nil unanswered) ∙ framed_then_cut unanswered unanswered [] (Reads-nil unanswered) cut in
-    Answered-of b b (unanswered ++ []) [] (subst (λ (x : EventsAndRest). Progress b b x.events [] []) (sym f) (Progress-nil b [])) (λ h. h)
-
-pub nothing_stops : (unanswered : List ℕ) → next unanswered ≡ Cut → (whole_frames (unanswered ++ [])).remainder ≡ Rest unanswered
-nothing_stops unanswered cut = ap (λ (f : EventsAndRest). f.remainder) (ap whole_frames (append-nil unanswered) ∙ framed_then_cut unanswered unanswered [] (Reads-nil unanswered) cut)
-
-pub nothing_counts : (unanswered : List ℕ) → next unanswered ≡ Cut → 0 ≡ length (whole_frames (unanswered ++ [])).events
-nothing_counts unanswered cut = sym (ap (λ (f : EventsAndRest). length f.events) (ap whole_frames (append-nil unanswered) ∙ framed_then_cut unanswered unanswered [] (Reads-nil unanswered) cut))
+    let f : whole_frames (unanswered ++ []) ≡ record { events = []; remainder = Rest unanswered } = ap whole_frames (append-nil unanswered) ∙ framed_then_cut unanswered unanswered [] (Reads-nil unanswered) cut in (
+      Answered-of b b (unanswered ++ []) [] (subst (λ (x : EventsAndRest). Progress b b x.events [] []) (sym f) (Progress-nil b [])) (λ h. h),
+      ap (λ (x : EventsAndRest). x.remainder) f,
+      sym (ap (λ (x : EventsAndRest). length x.events) f),
+    )
 
 -- ---- how far a run has come
 
@@ -159,12 +144,11 @@ module _ {D : Type 0} (honest : D → Type 0) (moment : D → ℕ) (left : D →
         served = Served-then a.told b.told c.told given unanswered got rest w sent n m p q;
         was_honest = λ h. g.was_honest (f.was_honest h);
         stays_honest = λ h. f.stays_honest stands (g.stays_honest h);
-        configured = λ h. configured-then honest moment left failed earlier a b c p.progress.took.config (g.stays_honest h) (g.configured h) (f.configured (g.stays_honest h) g.stands);
+        configured = λ h. configured-then honest moment left failed earlier a b c p.progress.took.config (g.configured h) (f.configured (g.stays_honest h) g.stands);
         any_moment = λ ready.
-            let there = g.stays_honest ready.is_honest in
-            let o = f.outlives (record { stands = g.stands; is_honest = there; none = p.none ready.none }) in
+            let o = f.outlives (record { stands = g.stands; is_honest = g.stays_honest ready.is_honest; none = p.none ready.none }) in
             let all : q.events ≡ o.front ++ o.back = sym (events_cut (unanswered ++ got) rest q.events q.reads q.cut) ∙ o.split in
-            any-then honest moment left failed earlier a b c p.events q.events w p.progress (g.any_moment ready) there
+            any-then honest moment left earlier a b c p.events q.events w p.progress (g.any_moment ready)
             (narrows moment left b.disk c.disk (λ before files. IsSafe b.told.config b.told.state o.front 0 files) (λ before files. IsSafe b.told.config b.told.state q.events 0 files) o.any_moment
             (λ before files was is. subst (λ (es : List Event). IsSafe b.told.config b.told.state es 0 files) (sym all) (safe-less b.told.config b.told.state o.front o.back 0 0 files (omega arith) is)));
         stood = g.stood;
@@ -178,7 +162,7 @@ module _ {D : Type 0} (honest : D → Type 0) (moment : D → ℕ) (left : D →
       → Fares honest moment left a c (events_in (given ++ got)) (w ++ sent)
   going-ends a b c given unanswered got w sent n g f =
       let p = g.served in
-      subst (λ (x : EventsAndRest). Fares honest moment left a c x.events (w ++ sent)) (sym (framed_more given unanswered got p.events p.reads))
+      subst (λ (x : EventsAndRest). Fares honest moment left a c x.events (w ++ sent)) (sym (p.reads.goes got))
       (fares-then honest moment left failed earlier a b c p.events (events_in (unanswered ++ got)) w sent p.progress p.none g.was_honest g.stays_honest g.configured g.any_moment g.stands f)
 
   -- the loop gave up
@@ -187,64 +171,8 @@ module _ {D : Type 0} (honest : D → Type 0) (moment : D → ℕ) (left : D →
       subst (λ (x : List ℕ). Fares honest moment left a b (events_in x) w) (append-nil given)
       (subst (λ (x : List ℕ). Fares honest moment left a b (events_in (given ++ [])) x) (append-nil w) (going-ends a b b given unanswered [] w [] n g (none (events_in (unanswered ++ [])))))
 
-  -- the events have numbers of 64 bits, so their count has
-  pub going-fits : (a b c : Kept D) (given unanswered got rest w sent : List ℕ) (n m : ℕ) → Going a b given unanswered w n → Served b.told c.told (unanswered ++ got) rest sent m → c.told.last < 2 ^ 64 → n + m < 2 ^ 64
-  going-fits a b c given unanswered got rest w sent n m g q last =
-      let p = Served-then a.told b.told c.told given unanswered got rest w sent n m g.served q in
-      omega (arith, last, p.count_is, p.progress.took.last)
-
-  -- why it ends, said of the whole run
-  pub going-why : (a b c : Kept D) (given unanswered w : List ℕ) (n : ℕ) (e : EdgeFault) → Going a b given unanswered w n → Explains honest moment left failed e b c → Explains honest moment left failed e a c
-  going-why a b c given unanswered w n BadKind g x = (x.0, x.1 ∙ g.no_failure)
-  going-why a b c given unanswered w n BadInterface g x = (x.0, x.1 ∙ g.no_failure)
-  going-why a b c given unanswered w n TooLong g x = (x.0, x.1 ∙ g.no_failure)
-  going-why a b c given unanswered w n Truncated g x = (x.0, x.1 ∙ g.no_failure)
-  going-why a b c given unanswered w n Input g x = (x.0, x.1 ∙ g.no_failure)
-  going-why a b c given unanswered w n Output g x = record {
-    no_failure = λ up. x.no_failure up ∙ g.no_failure;
-    device = λ down. subst (λ (k : ℕ). Grew k (failed c.disk)) g.no_failure (x.device down);
-    by_one = omega (arith, x.by_one, g.no_failure);
-  }
-  going-why a b c given unanswered w n (Gateway fault) g x = (
-    record {
-      stood = x.0.stood;
-      made_room = x.0.made_room;
-      numbers_out = x.0.numbers_out;
-      fell = x.0.fell;
-      device = λ d. subst (λ (k : ℕ). Grew k (failed c.disk)) g.no_failure (x.0.device d);
-      by_one = omega (arith, x.0.by_one, g.no_failure);
-      generations = x.0.generations;
-    },
-    λ up. x.1 up ∙ g.no_failure,
-  )
-
-  -- a gateway that stood isn't to be opened again
-  pub not-reopen : (a c : Kept D) (e : EdgeFault) → Explains honest moment left failed e a c → e ≢ Gateway fault.Reopen
-  not-reopen a c BadKind x = λ is. absurd cc
-  not-reopen a c BadInterface x = λ is. absurd cc
-  not-reopen a c TooLong x = λ is. absurd cc
-  not-reopen a c Truncated x = λ is. absurd cc
-  not-reopen a c Input x = λ is. absurd cc
-  not-reopen a c Output x = λ is. absurd cc
-  not-reopen a c (Gateway why) x = λ is. let same : why ≡ fault.Reopen = cc in x.0.stood same
-
-  -- room was made
-  pub not-full : (a c : Kept D) (e : EdgeFault) → Explains honest moment left failed e a c → (e ≢ Gateway fault.HeldFull) × (e ≢ Gateway fault.Full)
-  not-full a c BadKind x = ((λ is. absurd cc), (λ is. absurd cc))
-  not-full a c BadInterface x = ((λ is. absurd cc), (λ is. absurd cc))
-  not-full a c TooLong x = ((λ is. absurd cc), (λ is. absurd cc))
-  not-full a c Truncated x = ((λ is. absurd cc), (λ is. absurd cc))
-  not-full a c Input x = ((λ is. absurd cc), (λ is. absurd cc))
-  not-full a c Output x = ((λ is. absurd cc), (λ is. absurd cc))
-  not-full a c (Gateway why) x =
-      ((λ is. let same : why ≡ fault.HeldFull = cc in x.0.made_room.0 same), (λ is. let same : why ≡ fault.Full = cc in x.0.made_room.1 same))
-
   -- it had fallen before: nothing is done
   pub fallen-fares : (start : Kept D) (events : List Event) → start.fallen ≡ true → Fares honest moment left start start events []
-  fallen-fares start events down = record {
-    was_honest = λ h. h;
-    stays_honest = λ up h. h;
-    configured = λ h up. absurd (true-false start.fallen down up);
-    outlives = λ ready. absurd (true-false start.fallen down ready.stands);
-    none = λ held up. held;
-  }
+  fallen-fares start events down =
+      let no : start.fallen ≡ false → ⊥ = true-false start.fallen down in
+      record { was_honest = λ h. h; stays_honest = λ up h. h; configured = λ h up. absurd (no up); outlives = λ ready. absurd (no ready.stands); none = λ held up. held }

@@ -1,10 +1,9 @@
 -- What goes between a run and its peer.
-use Rattle.std.proofs.Common.{◌≡◌, ◌≢◌, ◌⊎◌, inl, inr, ℕ, ◌+◌, List, [], ◌∷◌, ◌++◌, refl, sym, ap, subst, ◌∙◌, arith, append_assoc}
-use Rattle.std.proofs.lemmas.List.{append-nil}
+use Rattle.std.proofs.Common.{◌≡◌, ◌≢◌, ◌⊎◌, inl, inr, ℕ, ◌+◌, List, [], ◌∷◌, ◌++◌, length, refl, sym, ap, subst, ◌∙◌, arith, append_assoc, length-append, append-nil}
 use Rattle.gateway.specs.Told.{Told}
 use Rattle.socket_edge.specs.Joined.{taken_then}
 use Rattle.socket_edge.specs.declared.fault.EdgeFault.{EdgeFault}
-use Rattle.socket_edge.specs.declared.fault.EdgeFault.TheVariants.{BadKind, BadInterface, TooLong, Truncated, Input, Output, Gateway}
+use Rattle.socket_edge.specs.declared.fault.EdgeFault.TheVariants.{Truncated, Input, Output}
 use Rattle.socket_edge.specs.Running.{AnswersFirst, LastTurn, MayGoOn}
 use Rattle.socket_edge.specs.Serving.{AsksFirst, AsksOnce, Hands, HandsAll, NeverAsks}
 use Rattle.socket_edge.specs.Turns.{Turn, Gave, ReadFailed, Took, WriteFailed, AllPass, Asks, LastIs, LastTookNone, given, taken, times_asked}
@@ -13,48 +12,36 @@ pub never_then : (turns more : List Turn) → NeverAsks turns → NeverAsks more
 never_then [] more p q = q
 never_then (Gave bytes ∷ turns) more p q = absurd p
 never_then (ReadFailed ∷ turns) more p q = absurd p
-never_then (Took bytes ∷ turns) more p q = never_then turns more p q
-never_then (WriteFailed ∷ turns) more p q = never_then turns more p q
+never_then (t ∷ turns) more p q = never_then turns more p q
 
-pub never_given : (turns : List Turn) → NeverAsks turns → given turns ≡ []
-never_given [] p = refl
+-- then it gave nothing, and no turn counts
+pub never_given : (turns : List Turn) → NeverAsks turns → (given turns ≡ []) × (times_asked turns ≡ 0)
+never_given [] p = (refl, refl)
 never_given (Gave bytes ∷ turns) p = absurd p
 never_given (ReadFailed ∷ turns) p = absurd p
-never_given (Took bytes ∷ turns) p = never_given turns p
-never_given (WriteFailed ∷ turns) p = never_given turns p
+never_given (t ∷ turns) p = never_given turns p
 
 never_asks : (turns after : List Turn) (t : Turn) → Asks t → NeverAsks (turns ++ t ∷ after) → ⊥
-never_asks [] after (Gave bytes) asks p = p
-never_asks [] after ReadFailed asks p = p
 never_asks [] after (Took bytes) asks p = asks
 never_asks [] after WriteFailed asks p = asks
-never_asks (Gave some ∷ turns) after t asks p = p
-never_asks (ReadFailed ∷ turns) after t asks p = p
+never_asks [] after t asks p = p
 never_asks (Took some ∷ turns) after t asks p = never_asks turns after t asks p
 never_asks (WriteFailed ∷ turns) after t asks p = never_asks turns after t asks p
+never_asks (some ∷ turns) after t asks p = p
+
+pub never_later : (t : Turn) (turns : List Turn) → AsksFirst (t ∷ turns) → NeverAsks turns
+never_later (Took bytes) turns p = absurd p
+never_later WriteFailed turns p = absurd p
+never_later t turns p = p
 
 only_first : (turns after : List Turn) (t : Turn) → Asks t → AsksFirst (turns ++ t ∷ after) → turns ≡ []
 only_first [] after t asks p = refl
-only_first (Gave some ∷ turns) after t asks p = absurd (never_asks turns after t asks p)
-only_first (ReadFailed ∷ turns) after t asks p = absurd (never_asks turns after t asks p)
-only_first (Took some ∷ turns) after t asks p = absurd p
-only_first (WriteFailed ∷ turns) after t asks p = absurd p
-
--- ---- how often it was asked
-
-never_counted : (turns : List Turn) → NeverAsks turns → times_asked turns ≡ 0
-never_counted [] p = refl
-never_counted (Gave bytes ∷ turns) p = absurd p
-never_counted (ReadFailed ∷ turns) p = absurd p
-never_counted (Took bytes ∷ turns) p = never_counted turns p
-never_counted (WriteFailed ∷ turns) p = never_counted turns p
+only_first (some ∷ turns) after t asks p = absurd (never_asks turns after t asks (never_later some (turns ++ t ∷ after) p))
 
 pub asked_then : (turns more : List Turn) → times_asked (turns ++ more) ≡ times_asked turns + times_asked more
 asked_then [] more = omega arith
-asked_then (Gave bytes ∷ turns) more = omega (arith, asked_then turns more)
-asked_then (ReadFailed ∷ turns) more = omega (arith, asked_then turns more)
 asked_then (Took bytes ∷ turns) more = asked_then turns more
-asked_then (WriteFailed ∷ turns) more = asked_then turns more
+asked_then (t ∷ turns) more = omega (arith, asked_then turns more)
 
 -- ---- turns at which bytes went, and the last one
 
@@ -73,13 +60,10 @@ pub none_then : (turns more : List Turn) → AllPass turns → LastTookNone more
 none_then turns more p q = elim q [ inl failed ↦ inl (last_then WriteFailed turns more p failed) | inr none ↦ inr (last_then (Took []) turns more p none) ]
 
 pub fault_then : (fault : EdgeFault) (turns more : List Turn) → AllPass turns → LastTurn fault more → LastTurn fault (turns ++ more)
-fault_then BadKind turns more p q = passed_then turns more p q
-fault_then BadInterface turns more p q = passed_then turns more p q
-fault_then TooLong turns more p q = passed_then turns more p q
 fault_then Truncated turns more p q = last_then (Gave []) turns more p q
 fault_then Input turns more p q = last_then ReadFailed turns more p q
 fault_then Output turns more p q = none_then turns more p q
-fault_then (Gateway why) turns more p q = passed_then turns more p q
+fault_then fault turns more p q = passed_then turns more p q
 
 -- so many reads, each of which gave some bytes, and writes that took some
 abbrev pub Counted : ℕ → List Turn → Type 0
@@ -90,23 +74,12 @@ counted_then n turns more p q = (passed_then turns more p.0 q.0, omega (arith, a
 
 -- ---- the order of turns
 
-heads : (x y : Turn) (xs ys : List Turn) → x ∷ xs ≡ y ∷ ys → x ≡ y
-heads x y xs ys e = cc
-
-tails : (x y : Turn) (xs ys : List Turn) → x ∷ xs ≡ y ∷ ys → xs ≡ ys
-tails x y xs ys e = cc
-
 -- a turn of the one and then the other is a turn of the one, or of the other
 pub turn_of : (xs ys before after : List Turn) (t : Turn) → xs ++ ys ≡ before ++ t ∷ after
     → ((rest : List Turn) × (xs ≡ before ++ t ∷ rest)) ⊎ ((middle : List Turn) × (before ≡ xs ++ middle) × (ys ≡ middle ++ t ∷ after))
 turn_of [] ys before after t e = inr (before, refl, e)
-turn_of (x ∷ xs) ys [] after t e = inl (xs, ap (λ (h : Turn). h ∷ xs) (heads x t (xs ++ ys) after e))
-turn_of (x ∷ xs) ys (b ∷ before) after t e =
-    let head : x ≡ b = heads x b (xs ++ ys) (before ++ t ∷ after) e in
-    elim (turn_of xs ys before after t (tails x b (xs ++ ys) (before ++ t ∷ after) e)) [
-      | inl r ↦ inl (r.0, ap (λ (h : Turn). h ∷ xs) head ∙ ap (λ (ts : List Turn). b ∷ ts) r.1)
-      | inr m ↦ inr (m.0, ap (λ (h : Turn). h ∷ before) (sym head) ∙ ap (λ (ts : List Turn). x ∷ ts) m.1, m.2)
-    ]
+turn_of (x ∷ xs) ys [] after t e = inl (xs, (cc))
+turn_of (x ∷ xs) ys (b ∷ before) after t e = elim (turn_of xs ys before after t (cc)) [ inl r ↦ inl (r.0, (cc)) | inr m ↦ inr (m.0, (cc), m.2) ]
 
 -- all is answered, and then it is asked once
 pub first-then : (start : Told) (turns more : List Turn) → AnswersFirst start turns
@@ -121,10 +94,7 @@ first-then start turns more first answered once = λ before t after e asks.
     ]
 
 pub first-nil : (start : Told) → AnswersFirst start []
-first-nil start = λ before t after e asks. absurd (none before t after e) where
-  none : (before : List Turn) (t : Turn) (after : List Turn) → [] ≡ before ++ t ∷ after → ⊥
-  none [] t after e = cc
-  none (b ∷ before) t after e = cc
+first-nil start = λ before t after e asks. absurd (omega (arith, ap length e, length-append before (t ∷ after)))
 
 module _ {P : Type 0} (went : P → P → List Turn → Type 0) where
   -- how far a run has come with its peer
@@ -144,17 +114,11 @@ module _ {P : Type 0} (went : P → P → List Turn → Type 0) where
 
   -- one read that gives none
   pub asked-at-end : (a b : P) (got : List ℕ) → got ≡ [] → went a b (Gave got ∷ []) → (asks : AsksOnce went a b [] []) × LastIs (Gave []) asks.turns
-  asked-at-end a b got none w = (
-    record { turns = Gave [] ∷ []; goes = subst (λ (x : List ℕ). went a b (Gave x ∷ [])) none w; asks = tt; gives = refl; takes = refl },
-    record { before = []; are = refl; passed = tt },
-  )
+  asked-at-end a b got none w = (record { turns = Gave [] ∷ []; goes = subst (λ (x : List ℕ). went a b (Gave x ∷ [])) none w; asks = tt; gives = refl; takes = refl }, record { before = []; are = refl; passed = tt })
 
   -- one that fails
   pub asked-in-vain : (a b : P) → went a b (ReadFailed ∷ []) → (asks : AsksOnce went a b [] []) × LastIs ReadFailed asks.turns
-  asked-in-vain a b w = (
-    record { turns = ReadFailed ∷ []; goes = w; asks = tt; gives = refl; takes = refl },
-    record { before = []; are = refl; passed = tt },
-  )
+  asked-in-vain a b w = (record { turns = ReadFailed ∷ []; goes = w; asks = tt; gives = refl; takes = refl }, record { before = []; are = refl; passed = tt })
 
 module _ {P : Type 0} (went : P → P → List Turn → Type 0) (still : (peer : P) → went peer peer []) where
   pub Hands-nil : (a : P) → HandsAll went a a []
@@ -184,14 +148,14 @@ module _ {P : Type 0} (went : P → P → List Turn → Type 0)
       turns = Gave got ∷ h.turns;
       goes = further a b c (Gave got ∷ []) h.turns w h.goes;
       asks = h.unasked;
-      gives = ap (λ (z : List ℕ). got ++ z) (never_given h.turns h.unasked) ∙ append-nil got;
+      gives = ap (λ (z : List ℕ). got ++ z) (never_given h.turns h.unasked).0 ∙ append-nil got;
       takes = h.takes;
     }
 
     -- they are sent
     pub asked-and-sent : AllPass h.turns → (asks : AsksOnce went a c got sent) × (asks.turns ≢ []) × Counted 1 asks.turns
     unfolding asked
-    asked-and-sent p = (asked, (λ none. cc), ((some, p), omega (arith, never_counted h.turns h.unasked)))
+    asked-and-sent p = (asked, (λ none. cc), ((some, p), omega (arith, (never_given h.turns h.unasked).1)))
 
     -- or the run ends there
     pub asked-and-ends : (fault : EdgeFault) → LastTurn fault h.turns → (asks : AsksOnce went a c got sent) × (asks.turns ≢ []) × LastTurn fault asks.turns

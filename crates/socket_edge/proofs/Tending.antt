@@ -8,7 +8,9 @@ use Rattle.gateway.specs.Kept.{Kept}
 use Rattle.gateway.specs.Running.{Stands, CarriesOn, BreaksOff}
 use Rattle.gateway.proofs.Runs.{breaks-here, carries-none, ended, memory-why}
 use Rattle.socket_edge.specs.Running.{Fares}
+use Rattle.socket_edge.specs.Serving.{ComesByOne}
 use Rattle.socket_edge.proofs.Lasting.{fares-none}
+use Rattle.socket_edge.proofs.Stopping.{by-one-end}
 
 module _ {D : Type 0} (honest : D → Type 0) (moment : D → ℕ) (left : D → ℕ → Files → Type 0) (seen : D → Files) (failed : D → ℕ)
     (reads : (disk : D) → honest disk → left disk (moment disk) (seen disk))
@@ -31,3 +33,7 @@ module _ {D : Type 0} (honest : D → Type 0) (moment : D → ℕ) (left : D →
   -- a run that took nothing
   pub idle-fares : Stands honest moment left failed now now [] [] → (events : List Event) → Fares honest moment left now now events []
   idle-fares s events = fares-none honest moment left failed now events (ended honest moment left seen failed reads earlier now now [] [] s) s.stands
+
+  -- nor came by another gateway
+  pub idle-comes : Stands honest moment left failed now now [] [] → (events : List Event) → Fares honest moment left now now events [] × ComesByOne honest moment left now now events []
+  idle-comes s events = let f = idle-fares s events in (f, by-one-end honest moment left earlier now now events [] f)

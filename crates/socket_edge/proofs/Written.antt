@@ -1,17 +1,13 @@
 -- A beginning of bytes, handed to a peer.
-use Rattle.std.proofs.Common.{◌≡◌, ℕ, ◌+◌, ◌-◌, ◌<◌, get_or, subst, List, [], ◌∷◌, ◌++◌, Option, Result, IfErr, length, take, drop, sym, ap, ◌∙◌, append_assoc, length-drop}
-use Rattle.std.proofs.lemmas.List.{take-append-drop, append-nil}
+use Rattle.std.proofs.Common.{◌≡◌, ℕ, ◌+◌, ◌-◌, ◌<◌, get_or, subst, List, [], ◌∷◌, ◌++◌, Result, IfErr, length, take, drop, sym, ap, ◌∙◌, append_assoc, length-drop, take-append-drop, append-nil, flat_map}
 use Rattle.std.proofs.lemmas.List.Concat.{flat_map-append}
 use Rattle.std.proofs.Math.Seq.{take-length}
-use Rattle.std.specs.List.{flat_map}
 use Rattle.std.proofs.lemmas.Result.{IfErr-weaker}
-use Rattle.std.specs.Io.KnownBytes.{Appends}
 use Rattle.machine.specs.declared.event.Answer.{Answer}
 use Rattle.frames.specs.Answers.{frame}
 use Rattle.frames.proofs.Parts.{frames_step}
 use Rattle.socket_edge.specs.declared.fault.EdgeFault.{EdgeFault}
 use Rattle.socket_edge.specs.declared.fault.EdgeFault.TheVariants.{Output}
-use Rattle.socket_edge.specs.Progress.{AppendsFront}
 use Rattle.socket_edge.specs.Joined.{taken_then}
 use Rattle.socket_edge.specs.Serving.{HandsAll, HandsFront, NeverAsks}
 use Rattle.socket_edge.specs.Turns.{Turn, LastTookNone, taken}
@@ -24,11 +20,6 @@ rest_whole at xs = rw (← length-drop at xs) (take-length (drop at xs))
 -- a beginning of x is one of what begins with x
 pub Front-of : {P : Type 0} (went : P → P → List Turn → Type 0) (a b : P) (x y : List ℕ) → HandsFront went a b x → HandsFront went a b (x ++ y)
 Front-of went a b x y p = record { written = p.written; lost = p.lost ++ y; splits = sym (append_assoc p.written p.lost y) ∙ ap (λ (z : List ℕ). z ++ y) p.splits; hands = p.hands; last = p.last }
-
--- what a writer gets of it
-pub Front-appends : {P : Type 0} (went : P → P → List Turn → Type 0) (a b : P) (x : List ℕ) (old new : Option (List ℕ))
-    → ((turns : List Turn) → went a b turns → Appends old new (taken turns)) → HandsFront went a b x → AppendsFront old new x
-Front-appends went a b x old new tells p = record { written = p.written; lost = p.lost; splits = p.splits; appends = subst (Appends old new) p.hands.takes (tells p.hands.turns p.hands.goes) }
 
 module _ {P : Type 0} (went : P → P → List Turn → Type 0)
     (further : (a b c : P) (turns more : List Turn) → went a b turns → went b c more → went a c (turns ++ more)) where

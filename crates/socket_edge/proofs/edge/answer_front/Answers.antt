@@ -1,5 +1,4 @@
-use Rattle.std.proofs.Common.{◌≡◌, ◌++◌, [], List, ℕ, refl, ap, sym, subst, ◌∙◌, append_assoc, arith}
-use Rattle.std.specs.List.{flat_map}
+use Rattle.std.proofs.Common.{◌≡◌, ◌++◌, [], List, ℕ, refl, ap, sym, subst, ◌∙◌, append_assoc, arith, flat_map}
 use Rattle.std.proofs.lemmas.List.Concat.{flat_map-append}
 use Rattle.std.proofs.lemmas.Result.{err_from_is_err_and}
 use Rattle.machine.specs.declared.event.Answer.{Answer}
@@ -25,15 +24,9 @@ returns-in-Err g c =
     let bytes = c.args.waiting.now.unanswered in
     let e = c.in-Err.ensures in
     let h = handed-none g.P.Peer.went g.met.P.Peer.still c.args.peer.now in
-    let refuses = fails-behind g.D.Disk.honest g.D.Disk.moment g.D.Disk.left g.D.Disk.seen g.D.Disk.failed g.met.D.Disk.reads g.met.D.Disk.earlier start start c.hand_out_held.new.gateway bytes bytes [] [] [] [] [] c.in-Err.fault refl refl c.stands.ensures e.err (λ none. absurd (e.some none)) in record {
-      came = (
-        [],
-        [],
-        h.0,
-        sent-bad g.D.Disk.honest g.D.Disk.moment g.D.Disk.left g.D.Disk.seen g.D.Disk.failed g.met.D.Disk.reads g.met.D.Disk.earlier start (Gateway c.in-Err.fault) c.hand_out_held.new.gateway bytes bytes [] refuses bytes [],
-        h.1,
-      );
-    }
+    let refuses = fails-behind g.D.Disk.honest g.D.Disk.moment g.D.Disk.left g.D.Disk.seen g.D.Disk.failed g.met.D.Disk.reads g.met.D.Disk.earlier start start c.hand_out_held.new.gateway bytes bytes [] [] [] [] [] c.in-Err.fault refl refl c.stands.ensures e.err (λ none. absurd (e.some none)) in
+    let sent = sent-bad g.D.Disk.honest g.D.Disk.moment g.D.Disk.left g.D.Disk.seen g.D.Disk.failed g.met.D.Disk.reads g.met.D.Disk.earlier start (Gateway c.in-Err.fault) c.hand_out_held.new.gateway bytes bytes [] refuses bytes [] in
+    record { came = ([], [], h.0, sent, h.1) }
 
 pub returns-in_err-send_before : goal.returns-in_err-send_before
 returns-in_err-send_before g c =
@@ -48,16 +41,10 @@ returns-in_err-send_before g c =
     let offered = Offered-behind g.D.Disk.honest g.D.Disk.moment g.D.Disk.left g.D.Disk.failed start c.hand_out_held.new.gateway c.offer_all-halt.new.gateway c.offer_all-halt.result bytes rest [] first (first ++ o.0) c.in-Ok.ensures.ok (o.2 first) in
     let closed = k.2 start bytes rest (first ++ o.0) c.stands.ensures offered in
     let whole = all_frames c.args.waiting.now.answered c.offer_all-halt.new.waiting.answered c.answered.result.now first o.0 k.0 c.requires.sent o.1 (c.answered.ensures ∙ k.1) in
-    let front = rw c.as_slice.ensures.value at e.1 in record {
-      came = (
-        [],
-        front.written,
-        front.hands,
-        rw (p.1, p.2, e.0) (sent-some g.D.Disk.honest g.D.Disk.moment g.D.Disk.left g.D.Disk.seen g.D.Disk.failed g.met.D.Disk.reads g.met.D.Disk.earlier start c.close-closed.result c.close-closed.new.gateway bytes rest
-            ((first ++ o.0) ++ k.0) front.written front.lost closed (front.splits ∙ whole) c.close-closed.new.waiting.unanswered []),
-        rw (p.1, p.2, e.0) front.last,
-      );
-    }
+    let front = rw c.as_slice.ensures.value at e.1 in
+    let sent = sent-some g.D.Disk.honest g.D.Disk.moment g.D.Disk.left g.D.Disk.seen g.D.Disk.failed g.met.D.Disk.reads g.met.D.Disk.earlier start c.close-closed.result c.close-closed.new.gateway bytes rest
+    ((first ++ o.0) ++ k.0) front.written front.lost closed (front.splits ∙ whole) c.close-closed.new.waiting.unanswered [] in
+    record { came = ([], front.written, front.hands, rw (p.1, p.2, e.0) sent, rw (p.1, p.2, e.0) front.last) }
 
 pub returns-in_err-closed : goal.returns-in_err-closed
 returns-in_err-closed g c =
@@ -71,17 +58,12 @@ returns-in_err-closed g c =
     let offered = Offered-behind g.D.Disk.honest g.D.Disk.moment g.D.Disk.left g.D.Disk.failed start c.hand_out_held.new.gateway c.offer_all-halt.new.gateway c.offer_all-halt.result bytes rest [] first (first ++ o.0) c.in-Ok.ensures.ok (o.2 first) in
     let closed = k.2 start bytes rest (first ++ o.0) c.stands.ensures offered in
     let whole = all_frames c.args.waiting.now.answered c.offer_all-halt.new.waiting.answered c.answered.result.now first o.0 k.0 c.requires.sent o.1 (c.answered.ensures ∙ k.1) in
-    let h = handed-all g.P.Peer.went c.args.peer.now c.send_before.new.peer _ _ whole (rw c.as_slice.ensures.value at c.in_ok-send_before.ensures.ok) in record {
-      came = (
-        [],
-        frames ((first ++ o.0) ++ k.0),
-        h.0,
-        rw (p.1, p.2) (sent-bad g.D.Disk.honest g.D.Disk.moment g.D.Disk.left g.D.Disk.seen g.D.Disk.failed g.met.D.Disk.reads g.met.D.Disk.earlier start c.in_err-closed.field-0.0 c.close-closed.new.gateway bytes rest
-            ((first ++ o.0) ++ k.0) closed c.close-closed.new.waiting.unanswered []),
-        rw (p.1, p.2) (closed-turns g.D.Disk.honest g.D.Disk.moment g.D.Disk.left g.D.Disk.failed start c.close-closed.new.gateway c.in_err-closed.field-0.0 bytes rest
-            ((first ++ o.0) ++ k.0) h.0.turns closed h.1),
-      );
-    }
+    let h = handed-all g.P.Peer.went c.args.peer.now c.send_before.new.peer _ _ whole (rw c.as_slice.ensures.value at c.in_ok-send_before.ensures.ok) in
+    let all = (first ++ o.0) ++ k.0 in
+    let sent = sent-bad g.D.Disk.honest g.D.Disk.moment g.D.Disk.left g.D.Disk.seen g.D.Disk.failed g.met.D.Disk.reads g.met.D.Disk.earlier start c.in_err-closed.field-0.0 c.close-closed.new.gateway bytes rest
+    all closed c.close-closed.new.waiting.unanswered [] in
+    let passed = closed-turns g.D.Disk.honest g.D.Disk.moment g.D.Disk.left g.D.Disk.failed start c.close-closed.new.gateway c.in_err-closed.field-0.0 bytes rest all h.0.turns closed h.1 in
+    record { came = ([], frames all, h.0, rw (p.1, p.2) sent, rw (p.1, p.2) passed) }
 
 pub overflow_sub-result : goal.overflow_sub-result
 overflow_sub-result g c =
@@ -107,19 +89,6 @@ returns g c =
     let closed = k.2 start bytes rest (first ++ o.0) c.stands.ensures offered in
     let whole = all_frames c.args.waiting.now.answered c.offer_all-halt.new.waiting.answered c.answered.result.now first o.0 k.0 c.requires.sent o.1 (c.answered.ensures ∙ k.1) in
     let h = handed-all g.P.Peer.went c.args.peer.now c.send_before.new.peer _ _ whole (rw c.as_slice.ensures.value at c.in_ok-send_before.ensures.ok) in
-    let left = c.in_ok-closed.ensures.rest in record {
-      came = (
-        (first ++ o.0) ++ k.0,
-        frames ((first ++ o.0) ++ k.0),
-        h.0,
-        (
-          closed.0,
-          subst (Reads bytes closed.0) (sym left) closed.1,
-          ap next left ∙ closed.2,
-          omega (arith, c.last-first.ensures, c.last.ensures, closed.3.stands.ran.took.last),
-          closed.3,
-          refl,
-        ),
-        h.1,
-      );
-    }
+    let left = c.in_ok-closed.ensures.rest in
+    let all = (first ++ o.0) ++ k.0 in
+    record { came = (all, frames all, h.0, (closed.0, subst (Reads bytes closed.0) (sym left) closed.1, ap next left ∙ closed.2, omega (arith, c.last-first.ensures, c.last.ensures, closed.3.stands.ran.took.last), closed.3, refl), h.1) }

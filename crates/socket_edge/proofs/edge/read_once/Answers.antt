@@ -1,16 +1,15 @@
-use Rattle.std.proofs.Common.{◌≡◌, ◌≢◌, List, [], ◌++◌, ℕ, length, arith, refl, subst, sym, ap, ◌∙◌}
+use Rattle.std.proofs.Common.{◌≡◌, ◌≢◌, List, [], ◌++◌, ℕ, length, arith, refl, subst, sym, ap, ◌∙◌, append-nil}
 use Rattle.std.proofs.lemmas.Grind.{common_steps}
-use Rattle.std.proofs.lemmas.List.{append-nil, nil_from_length}
+use Rattle.std.proofs.lemmas.List.{nil_from_length}
 use Rattle.socket_edge.specs.Exchange.{Exchange}
 use Rattle.socket_edge.specs.Serving.{ComesByOne, Served}
 use Rattle.frames.specs.Framing.{Rest}
 use Rattle.socket_edge.specs.Running.{EndsBy, Fares, events_in}
 use Rattle.socket_edge.proofs.Talks.{asked-and-ends, asked-and-sent, asked-at-end, asked-in-vain, asked-none}
 use Rattle.socket_edge.proofs.Answers.{AnsweredFirst-nothing}
-use Rattle.socket_edge.proofs.Runs.{EndsBy-seen, nothing, nothing_stops, nothing_counts}
-use Rattle.socket_edge.proofs.Stopping.{by-one-end}
+use Rattle.socket_edge.proofs.Runs.{EndsBy-seen, nothing}
 use Rattle.socket_edge.proofs.Fitting.{none-fit}
-use Rattle.socket_edge.proofs.Tending.{idle-fares}
+use Rattle.socket_edge.proofs.Tending.{idle-comes}
 use Rattle.socket_edge.proofs.edge.read_once.Goals as goal
 
 -- a read of no byte, and of some
@@ -25,33 +24,15 @@ none_added old new got n e is h = h ∙ ap (λ more. old ++ more) (nil_from_leng
 
 pub returns-in-Err-NoMemory-clause-came : goal.returns-in-Err-NoMemory-clause-came
 returns-in-Err-NoMemory-clause-came g c =
-    let k = asked-none g.P.Peer.went g.met.P.Peer.still c.args.peer.now c.read.new.peer (c.in-Err-NoMemory.ensures.unasked c.in-Err-NoMemory.field-0-is) in (
-      [],
-      [],
-      k.0,
-      AnsweredFirst-nothing c.args.gateway.now.told (events_in (c.args.waiting.now.unanswered ++ [])),
-      idle-fares g.D.Disk.honest g.D.Disk.moment g.D.Disk.left g.D.Disk.seen g.D.Disk.failed g.met.D.Disk.reads g.met.D.Disk.earlier c.args.gateway.now c.stands.ensures (events_in (c.args.waiting.now.unanswered ++ [])),
-      by-one-end g.D.Disk.honest g.D.Disk.moment g.D.Disk.left g.met.D.Disk.earlier c.args.gateway.now c.args.gateway.now (events_in (c.args.waiting.now.unanswered ++ [])) []
-          (idle-fares g.D.Disk.honest g.D.Disk.moment g.D.Disk.left g.D.Disk.seen g.D.Disk.failed g.met.D.Disk.reads g.met.D.Disk.earlier c.args.gateway.now c.stands.ensures (events_in (c.args.waiting.now.unanswered ++ []))),
-      (λ none. refl),
-      k.1,
-      none-fit,
-    )
+    let k = asked-none g.P.Peer.went g.met.P.Peer.still c.args.peer.now c.read.new.peer (c.in-Err-NoMemory.ensures.unasked c.in-Err-NoMemory.field-0-is) in
+    let i = idle-comes g.D.Disk.honest g.D.Disk.moment g.D.Disk.left g.D.Disk.seen g.D.Disk.failed g.met.D.Disk.reads g.met.D.Disk.earlier c.args.gateway.now c.stands.ensures (events_in (c.args.waiting.now.unanswered ++ [])) in
+    ([], [], k.0, AnsweredFirst-nothing c.args.gateway.now.told (events_in (c.args.waiting.now.unanswered ++ [])), i.0, i.1, (λ none. refl), k.1, none-fit)
 
 pub returns-in-Err-Failed-clause-came : goal.returns-in-Err-Failed-clause-came
 returns-in-Err-Failed-clause-came g c =
-    let k = asked-in-vain g.P.Peer.went c.args.peer.now c.read.new.peer (c.in-Err-Failed.ensures.failed c.in-Err-Failed.field-0-is) in (
-      [],
-      [],
-      k.0,
-      nothing c.args.gateway.now.told c.args.waiting.now.unanswered c.requires.cut,
-      idle-fares g.D.Disk.honest g.D.Disk.moment g.D.Disk.left g.D.Disk.seen g.D.Disk.failed g.met.D.Disk.reads g.met.D.Disk.earlier c.args.gateway.now c.stands.ensures (events_in (c.args.waiting.now.unanswered ++ [])),
-      by-one-end g.D.Disk.honest g.D.Disk.moment g.D.Disk.left g.met.D.Disk.earlier c.args.gateway.now c.args.gateway.now (events_in (c.args.waiting.now.unanswered ++ [])) []
-          (idle-fares g.D.Disk.honest g.D.Disk.moment g.D.Disk.left g.D.Disk.seen g.D.Disk.failed g.met.D.Disk.reads g.met.D.Disk.earlier c.args.gateway.now c.stands.ensures (events_in (c.args.waiting.now.unanswered ++ []))),
-      (λ none. refl),
-      k.1,
-      none-fit,
-    )
+    let k = asked-in-vain g.P.Peer.went c.args.peer.now c.read.new.peer (c.in-Err-Failed.ensures.failed c.in-Err-Failed.field-0-is) in
+    let i = idle-comes g.D.Disk.honest g.D.Disk.moment g.D.Disk.left g.D.Disk.seen g.D.Disk.failed g.met.D.Disk.reads g.met.D.Disk.earlier c.args.gateway.now c.stands.ensures (events_in (c.args.waiting.now.unanswered ++ [])) in
+    ([], [], k.0, (nothing c.args.gateway.now.told c.args.waiting.now.unanswered c.requires.cut).0, i.0, i.1, (λ none. refl), k.1, none-fit)
 
 pub returns-then-is_empty-clause-came : goal.returns-then-is_empty-clause-came
 returns-then-is_empty-clause-came g c =
@@ -61,23 +42,10 @@ returns-then-is_empty-clause-came g c =
     let t = c.if-is_empty.true in
     let e = c.is_empty.ensures in
     let l : length c.unanswered.result.now ≡ 0 = grind (arith, common_steps) in
-    let none : c.args.waiting.now.unanswered ≡ [] = sym same ∙ sym c.unanswered.ensures ∙ nil_from_length c.unanswered.result.now l in (
-      [],
-      [],
-      k.0,
-      record {
-        answered = nothing c.args.gateway.now.told c.args.waiting.now.unanswered c.requires.cut;
-        whole = nothing_stops c.args.waiting.now.unanswered c.requires.cut ∙ ap Rest none;
-        count_is = nothing_counts c.args.waiting.now.unanswered c.requires.cut;
-        ended = c.in-Ok.ensures.end c.if-n-eq0.true;
-      },
-      idle-fares g.D.Disk.honest g.D.Disk.moment g.D.Disk.left g.D.Disk.seen g.D.Disk.failed g.met.D.Disk.reads g.met.D.Disk.earlier c.args.gateway.now c.stands.ensures (events_in (c.args.waiting.now.unanswered ++ [])),
-      by-one-end g.D.Disk.honest g.D.Disk.moment g.D.Disk.left g.met.D.Disk.earlier c.args.gateway.now c.args.gateway.now (events_in (c.args.waiting.now.unanswered ++ [])) []
-          (idle-fares g.D.Disk.honest g.D.Disk.moment g.D.Disk.left g.D.Disk.seen g.D.Disk.failed g.met.D.Disk.reads g.met.D.Disk.earlier c.args.gateway.now c.stands.ensures (events_in (c.args.waiting.now.unanswered ++ []))),
-      (λ none. refl),
-      k.1,
-      none-fit,
-    )
+    let none : c.args.waiting.now.unanswered ≡ [] = sym same ∙ sym c.unanswered.ensures ∙ nil_from_length c.unanswered.result.now l in
+    let i = idle-comes g.D.Disk.honest g.D.Disk.moment g.D.Disk.left g.D.Disk.seen g.D.Disk.failed g.met.D.Disk.reads g.met.D.Disk.earlier c.args.gateway.now c.stands.ensures (events_in (c.args.waiting.now.unanswered ++ [])) in
+    let n = nothing c.args.gateway.now.told c.args.waiting.now.unanswered c.requires.cut in
+    ([], [], k.0, record { answered = n.0; whole = n.1 ∙ ap Rest none; count_is = n.2; ended = c.in-Ok.ensures.end c.if-n-eq0.true }, i.0, i.1, (λ none. refl), k.1, none-fit)
 
 pub returns-then-n-eq0-clause-came : goal.returns-then-n-eq0-clause-came
 returns-then-n-eq0-clause-came g c =
@@ -87,18 +55,10 @@ returns-then-n-eq0-clause-came g c =
     let t = c.if-is_empty.false in
     let e = c.is_empty.ensures in
     let v = c.unanswered.ensures in
-    let some : c.args.waiting.now.unanswered ≢ [] = λ h. (let z : length c.unanswered.result.now ≡ 0 = ap length (v ∙ same ∙ h) in let f : ⊥ = grind (arith, common_steps) in f) in (
-      [],
-      [],
-      k.0,
-      (c.args.waiting.now.unanswered, nothing_stops c.args.waiting.now.unanswered c.requires.cut, some, nothing c.args.gateway.now.told c.args.waiting.now.unanswered c.requires.cut, c.in-Ok.ensures.end c.if-n-eq0.true),
-      idle-fares g.D.Disk.honest g.D.Disk.moment g.D.Disk.left g.D.Disk.seen g.D.Disk.failed g.met.D.Disk.reads g.met.D.Disk.earlier c.args.gateway.now c.stands.ensures (events_in (c.args.waiting.now.unanswered ++ [])),
-      by-one-end g.D.Disk.honest g.D.Disk.moment g.D.Disk.left g.met.D.Disk.earlier c.args.gateway.now c.args.gateway.now (events_in (c.args.waiting.now.unanswered ++ [])) []
-          (idle-fares g.D.Disk.honest g.D.Disk.moment g.D.Disk.left g.D.Disk.seen g.D.Disk.failed g.met.D.Disk.reads g.met.D.Disk.earlier c.args.gateway.now c.stands.ensures (events_in (c.args.waiting.now.unanswered ++ []))),
-      (λ none. refl),
-      k.1,
-      none-fit,
-    )
+    let some : c.args.waiting.now.unanswered ≢ [] = λ h. (let z : length c.unanswered.result.now ≡ 0 = ap length (v ∙ same ∙ h) in let f : ⊥ = grind (arith, common_steps) in f) in
+    let i = idle-comes g.D.Disk.honest g.D.Disk.moment g.D.Disk.left g.D.Disk.seen g.D.Disk.failed g.met.D.Disk.reads g.met.D.Disk.earlier c.args.gateway.now c.stands.ensures (events_in (c.args.waiting.now.unanswered ++ [])) in
+    let n = nothing c.args.gateway.now.told c.args.waiting.now.unanswered c.requires.cut in
+    ([], [], k.0, (c.args.waiting.now.unanswered, n.1, some, n.0, c.in-Ok.ensures.end c.if-n-eq0.true), i.0, i.1, (λ none. refl), k.1, none-fit)
 
 pub returns-in-Ok-answer_read-clause-came : goal.returns-in-Ok-answer_read-clause-came
 returns-in-Ok-answer_read-clause-came g c =

@@ -1,5 +1,4 @@
-use Rattle.std.proofs.Common.{ℕ, List, ◌∙◌, subst, sym, take}
-use Rattle.std.specs.List.{flat_map}
+use Rattle.std.proofs.Common.{ℕ, List, ◌∙◌, subst, sym, take, flat_map}
 use Rattle.frames.specs.Answers.{frame}
 use Rattle.frames.proofs.Parts.{frames_step}
 use Rattle.socket_edge.specs.Serving.{HandsAll}

@@ -1,6 +1,5 @@
-use Rattle.std.proofs.Common.{take}
+use Rattle.std.proofs.Common.{take, flat_map}
 use Rattle.socket_edge.specs.Serving.{HandsAll}
-use Rattle.std.specs.List.{flat_map}
 use Rattle.frames.specs.Answers.{frame}
 use Rattle.socket_edge.proofs.sending.send_frames.Given as goal
 

@@ -1,5 +1,4 @@
-use Rattle.std.proofs.Common.{◌≡◌, ◌≢◌, inl, inr, ℕ, ◌+◌, ◌-◌, ◌≤◌, ◌++◌, length, take, drop, [], arith, sym, ap, ◌∙◌, List, take-add, length-drop, refl}
-use Rattle.std.proofs.lemmas.List.{length-take-le}
+use Rattle.std.proofs.Common.{◌≡◌, ◌≢◌, inl, inr, ℕ, ◌+◌, ◌-◌, ◌≤◌, ◌++◌, length, take, drop, [], arith, sym, ap, ◌∙◌, List, take-add, length-drop, refl, length-take-le}
 use Rattle.socket_edge.specs.Turns.{Took, WriteFailed}
 use Rattle.socket_edge.proofs.Talks.{Hands-nil, Hands-once, Hands-then}
 use Rattle.socket_edge.proofs.Written.{Front-stays, rest_whole}

@@ -1,5 +1,4 @@
-use Rattle.std.proofs.Common.{[], ◌++◌, List, ℕ, ap, sym, subst, Result, ◌∙◌}
-use Rattle.std.proofs.lemmas.List.{append-nil}
+use Rattle.std.proofs.Common.{[], ◌++◌, List, ℕ, ap, sym, subst, Result, ◌∙◌, append-nil}
 use Rattle.machine.specs.declared.event.Answer.{Answer}
 use Rattle.socket_edge.specs.declared.fault.EdgeFault.{EdgeFault}
 use Rattle.socket_edge.specs.Exchange.{Exchange}

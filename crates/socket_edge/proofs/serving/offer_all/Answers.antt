@@ -1,9 +1,8 @@
-use Rattle.std.proofs.Common.{[], ◌++◌, List, ℕ, ap, sym, ◌∙◌}
-use Rattle.std.proofs.lemmas.List.{append-nil}
+use Rattle.std.proofs.Common.{[], ◌++◌, List, ℕ, ap, sym, ◌∙◌, append-nil}
 use Rattle.frames.specs.Answers.{frames}
 use Rattle.frames.proofs.Fronts.{next_shorter}
 use Rattle.socket_edge.proofs.Answers.{frames-append}
-use Rattle.socket_edge.proofs.Loops.{SoFar-bad, SoFar-cut, SoFar-first, SoFar-next, SoFar-refused}
+use Rattle.socket_edge.proofs.Loops.{SoFar-first, SoFar-next, SoFar-refused}
 use Rattle.socket_edge.proofs.serving.offer_all.Goals as goal
 
 pub loop-fault-init : goal.loop-fault-init
@@ -37,20 +36,14 @@ loop-fault-smaller g c =
 pub returns-in-Cut-clause-offered : goal.returns-in-Cut-clause-offered
 returns-in-Cut-clause-offered g c =
     let l = c.loop-fault in
-    let i = l.invariant in (
-      i.0,
-      i.1,
-      SoFar-cut g.D.Disk.honest g.D.Disk.moment g.D.Disk.left g.D.Disk.failed c.args.gateway.now l.gateway c.args.waiting.now.unanswered l.waiting.unanswered i.0 i.2 (rw (c.in-Cut.is, c.unanswered-in-loop-fault.ensures) at c.read_front.ensures),
-    )
+    let i = l.invariant in
+    (i.0, i.1, λ before. (i.2.events, i.2.reads, (rw (c.in-Cut.is, c.unanswered-in-loop-fault.ensures) at c.read_front.ensures), i.2.carries before))
 
 pub returns-in-Bad-clause-offered : goal.returns-in-Bad-clause-offered
 returns-in-Bad-clause-offered g c =
     let l = c.loop-fault in
-    let i = l.invariant in (
-      i.0,
-      i.1,
-      SoFar-bad g.D.Disk.honest g.D.Disk.moment g.D.Disk.left g.D.Disk.failed c.args.gateway.now l.gateway c.args.waiting.now.unanswered l.waiting.unanswered i.0 i.2 c.in-Bad.fault (rw (c.in-Bad.is, c.unanswered-in-loop-fault.ensures) at c.read_front.ensures),
-    )
+    let i = l.invariant in
+    (i.0, i.1, λ before. (i.2.events, i.2.reads, (rw (c.in-Bad.is, c.unanswered-in-loop-fault.ensures) at c.read_front.ensures), i.2.carries before))
 
 pub returns-in-Err-clause-offered : goal.returns-in-Err-clause-offered
 returns-in-Err-clause-offered g c =

@@ -1,7 +1,7 @@
-use Rattle.std.proofs.Common.{◌≡◌, ◌≤◌, ◌+◌, ◌++◌, [], List, ℕ, length, take, drop, ap, sym, ◌∙◌, arith}
-use Rattle.std.proofs.lemmas.List.{append-nil, with_items_is}
+use Rattle.std.proofs.Common.{◌≡◌, ◌+◌, ◌++◌, [], List, ℕ, take, drop, ap, sym, ◌∙◌, arith, append-nil}
+use Rattle.std.proofs.lemmas.List.{with_items_is}
 use Rattle.socket_edge.specs.Exchange.{Exchange}
-use Rattle.socket_edge.proofs.Memory.{alike, ok_of, view}
+use Rattle.socket_edge.proofs.Memory.{alike, view}
 use Rattle.socket_edge.proofs.waiting.Waiting.read.Goals as goal
 
 pub returns-in-Ok-clause-ok : goal.returns-in-Ok-clause-ok
@@ -14,10 +14,8 @@ returns-in-Ok-clause-ok g c =
     let it = c.in-Ok.ensures.ok in
     let value = c.as_mut_slice.ensures.value in
     let same : take self.end mid ≡ take self.end old = ap (take self.end) value ∙ c.make_room.ensures.front in
-    let room : self.end + self.asks ≤ length c.make_room.new.bytes.items = ok_of c.make_room.result (sym c.is_err.ensures.value ∙ c.if-is_err.false) c.make_room.ensures.ok in
-    let fits : self.end + self.asks ≤ length mid = omega (arith, ap length value, room) in
     let now = with_items_is c.make_room.new.bytes new (c.in-Ok.ensures.len ∙ c.as_mut_slice.ensures.len) in
-    let seen = alike self.answered self.held self.start self.end c.in-Ok.n old new it.0 i.0 i.1 i.2 i.3 (omega (arith, c.in-Ok.ensures.len, it.4, fits)) (it.2 ∙ ap (λ (zs : List ℕ). zs ++ it.0) same) in (
+    let seen = alike self.answered self.held self.start self.end c.in-Ok.n old new it.0 i.0 i.1 i.2 i.3 (it.2 ∙ ap (λ (zs : List ℕ). zs ++ it.0) same) in (
       it.0,
       it.1,
       ap (view self.answered self.held self.start (self.end + c.in-Ok.n)) now ∙ seen
@@ -35,10 +33,9 @@ returns-in-Err-clause-err g c =
     let new = c.read_behind.new.bytes in
     let value = c.as_mut_slice.ensures.value in
     let same : take self.end new ≡ take self.end old = c.in-Err.ensures.err ∙ ap (take self.end) value ∙ c.make_room.ensures.front in
-    let longer : self.end ≤ length new = omega (arith, c.make_room.ensures.longer, ap length value, c.in-Err.ensures.len, i.3) in
     let now = with_items_is c.make_room.new.bytes new (c.in-Err.ensures.len ∙ c.as_mut_slice.ensures.len) in
     let none : self.end + 0 ≡ self.end = omega arith in
-    let seen = alike self.answered self.held self.start self.end 0 old new [] i.0 i.1 i.2 i.3 (omega (arith, longer)) (ap (λ (n : ℕ). take n new) none ∙ same ∙ sym (append-nil (take self.end old))) in
+    let seen = alike self.answered self.held self.start self.end 0 old new [] i.0 i.1 i.2 i.3 (ap (λ (n : ℕ). take n new) none ∙ same ∙ sym (append-nil (take self.end old))) in
     ap (view self.answered self.held self.start self.end) now ∙ ap (λ (n : ℕ). view self.answered self.held self.start n new) (sym none) ∙ seen
     ∙ ap (λ (zs : List ℕ). record { answered = take self.answered old; held = drop self.answered (take self.held old); unanswered = zs }) (append-nil (drop self.start (take self.end old)))
     ∙ c.self.view_is ∙ c.move_to_front.ensures

@@ -1,5 +1,5 @@
-use Rattle.std.proofs.Common.{◌≡◌, ◌≤◌, ◌+◌, ◌-◌, ◌++◌, ◌∷◌, [], List, ℕ, length, take, drop, ap, sym, subst, ◌∙◌, arith}
-use Rattle.std.proofs.lemmas.List.{drop-drop, with_items_is}
+use Rattle.std.proofs.Common.{◌≡◌, ◌≤◌, ◌+◌, ◌-◌, ◌++◌, ◌∷◌, [], List, ℕ, length, take, drop, ap, sym, subst, ◌∙◌, arith, drop-drop}
+use Rattle.std.proofs.lemmas.List.{with_items_is}
 use Rattle.std.proofs.lemmas.Slice.{take-put_mid_below}
 use Rattle.machine.specs.declared.event.Event.{Event}
 use Rattle.gateway.specs.Running.{BreaksOff, CarriesOn}
@@ -31,7 +31,7 @@ returns-in-Ok g c =
     let seen = seen_passed self.held self.start k n self.end xs two ys i.1 ends fits size few c.move_down.ensures.there c.move_down.ensures.behind in
     let long : length two ≡ length xs = c.move_down.ensures.size ∙ between_size self.start (self.start + n) xs ys (omega arith) (omega (arith, ends, fits)) (size ∙ (omega arith)) in
     let now = with_items_is self.bytes two (long ∙ c.as_mut_slice-bytes.ensures.len) in
-    let packet = packet_in self.start n self.end xs bytes front.1 ends fits waits in
+    let packet = packet_in self.start n self.end xs bytes front.1 ends waits in
     let p = c.in-Ok.ensures.ok in
     let out = p.2.out in
     let from = c.held_from-self-inside.ensures in
@@ -74,7 +74,7 @@ returns-in-Err g c =
     let two = put_mid self.start (self.start + n - self.start) xs ys in
     let long : length two ≡ length xs = between_size self.start (self.start + n) xs ys (omega arith) (omega (arith, ends, fits)) size in
     let now = with_items_is self.bytes two (long ∙ c.as_mut_slice-bytes.ensures.len) in
-    let packet = packet_in self.start n self.end xs bytes front.1 ends fits waits in
+    let packet = packet_in self.start n self.end xs bytes front.1 ends waits in
     let p = c.in-Err.ensures.err in
     let from = c.held_from-self-inside-in-Err.ensures in
     let count = c.held-in-Err.ensures.value in
