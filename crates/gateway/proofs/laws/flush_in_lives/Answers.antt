@@ -1,20 +1,15 @@
-use Rattle.gateway.proofs.Living.{flushed-in-life, settled-in-life, flush-ends, stops-in-life}
+use Rattle.gateway.proofs.Living.{flush-ends, flushed-in-life, stops-in-life}
+use Rattle.gateway.proofs.Runs.{flush-keeps}
 use Rattle.gateway.proofs.laws.flush_in_lives.Goals as goal
 
 pub returns-clause-stopped : goal.returns-clause-stopped
-returns-clause-stopped g c = stops-in-life g.D.Disk.honest g.D.Disk.moment g.D.Disk.left g.D.Disk.seen g.D.Disk.failed g.met.D.Disk.reads g.met.D.Disk.earlier c.args.gateway.now c.flush.new.self
-    c.flush.ensures.synced.any_moment c.flush.ensures.synced.configured
+returns-clause-stopped g c =
+    stops-in-life g.D.Disk.honest g.D.Disk.moment g.D.Disk.left g.D.Disk.seen g.D.Disk.failed g.met.D.Disk.earlier c.args.gateway.now c.flush.new.self (flush-keeps g.met.D.Disk.reads g.met.D.Disk.earlier c.flush.ensures.synced)
 
 pub returns-clause-ok : goal.returns-clause-ok
 returns-clause-ok g c =
-    let e = c.flush.ensures.synced in
-    flushed-in-life g.D.Disk.honest g.D.Disk.moment g.D.Disk.left g.D.Disk.seen g.D.Disk.failed g.met.D.Disk.reads g.met.D.Disk.earlier c.args.gateway.now c.flush.new.self
-    e.was_honest e.stays_honest e.configured e.any_moment c.flush.result (λ answers. answers.items) c.flush.ensures.answers
-    (settled-in-life g.D.Disk.honest g.D.Disk.moment g.D.Disk.left g.D.Disk.seen g.D.Disk.failed g.met.D.Disk.reads g.met.D.Disk.earlier c.args.gateway.now c.flush.new.self
-    e.was_honest e.stays_honest e.configured e.any_moment c.flush.result e.ok e.none e.fell e.no_failure)
+    flushed-in-life g.D.Disk.honest g.D.Disk.moment g.D.Disk.left g.D.Disk.seen g.D.Disk.failed g.met.D.Disk.reads g.met.D.Disk.earlier c.args.gateway.now c.flush.new.self c.flush.result (λ answers. answers.items) c.flush.ensures.synced c.flush.ensures.answers
 
 pub returns-clause-err : goal.returns-clause-err
 returns-clause-err g c =
-    let e = c.flush.ensures.synced in
-    flush-ends g.D.Disk.honest g.D.Disk.moment g.D.Disk.left g.D.Disk.seen g.D.Disk.failed g.met.D.Disk.reads g.met.D.Disk.earlier c.args.gateway.now c.flush.new.self
-    e.was_honest e.stays_honest e.configured e.any_moment c.flush.result e.err
+    flush-ends g.D.Disk.honest g.D.Disk.moment g.D.Disk.left g.D.Disk.seen g.D.Disk.failed g.met.D.Disk.reads g.met.D.Disk.earlier c.args.gateway.now c.flush.new.self c.flush.result c.flush.ensures.synced

@@ -2,31 +2,19 @@ use Rattle.std.proofs.Common.{ap}
 use Rattle.std.proofs.lemmas.Result.{IfOk-weaker}
 use Rattle.machine.specs.declared.event.Event.{Event}
 use Rattle.machine.specs.declared.event.What.TheVariants.{Packet}
-use Rattle.gateway.specs.Given.{given_by, handed}
 use Rattle.gateway.specs.Kept.{Kept}
-use Rattle.gateway.proofs.Living.{calls-are, stops-where-it-was, takes-in-life}
-use Rattle.gateway.proofs.Runs.{offered}
+use Rattle.gateway.proofs.Living.{stops-where-it-was, taken-in-life}
 use Rattle.gateway.proofs.laws.take_packet_in_lives.Goals as goal
 
 pub returns-clause-stopped : goal.returns-clause-stopped
 returns-clause-stopped g c =
-    let lives = calls-are g.D.Disk.honest g.D.Disk.moment g.D.Disk.left g.D.Disk.seen g.D.Disk.failed g.met.D.Disk.reads g.met.D.Disk.earlier in
-    stops-where-it-was g.D.Disk.honest g.D.Disk.moment g.D.Disk.left g.D.Disk.seen g.D.Disk.failed g.met.D.Disk.reads g.met.D.Disk.earlier c.args.gateway.now c.take_packet.new.self
-    (ap (λ (n : Kept _). n.disk) c.take_packet.ensures.beside) (lives.between c.args.gateway.now)
+    stops-where-it-was g.D.Disk.honest g.D.Disk.moment g.D.Disk.left g.D.Disk.seen g.D.Disk.failed g.met.D.Disk.reads g.met.D.Disk.earlier c.args.gateway.now c.take_packet.new.self (ap (λ (n : Kept _). n.disk) c.take_packet.ensures.beside)
 
 pub returns-clause-ok : goal.returns-clause-ok
 returns-clause-ok g c =
-    let old = c.args.gateway.now in
-    let new = c.take_packet.new.self in
     let event : Event = record { moment = c.args.moment; what = Packet c.args.iface c.args.packet.now } in
-    let beside = c.take_packet.ensures.beside in
-    IfOk-weaker c.take_packet.result _ _ (λ taken t.
-    takes-in-life g.D.Disk.honest g.D.Disk.moment g.D.Disk.left g.D.Disk.seen g.D.Disk.failed g.met.D.Disk.reads g.met.D.Disk.earlier old new event (handed (given_by taken c.take_packet.new.packet))
-    (λ start events out s.
-    offered g.D.Disk.honest g.D.Disk.moment g.D.Disk.left g.D.Disk.seen g.D.Disk.failed g.met.D.Disk.reads g.met.D.Disk.earlier start
-    old events out s new event (given_by taken c.take_packet.new.packet) c.facts.ensures.config c.facts.ensures.sound
-    (ap (λ (n : Kept _). n.disk) beside) (ap (λ (n : Kept _). n.fallen) beside) t.takes.took t.takes.now))
-    c.take_packet.ensures.ok
+    let e = c.take_packet.ensures in
+    taken-in-life g.D.Disk.honest g.D.Disk.moment g.D.Disk.left g.D.Disk.seen g.D.Disk.failed g.met.D.Disk.reads g.met.D.Disk.earlier c.args.gateway.now c.take_packet.new.self event c.facts.ensures.config c.facts.ensures.sound c.take_packet.result c.take_packet.new.packet e.beside e.ok
 
 pub returns-clause-answer : goal.returns-clause-answer
 returns-clause-answer g c = IfOk-weaker c.take_packet.result _ _ (λ taken t. t.answer) c.take_packet.ensures.ok
