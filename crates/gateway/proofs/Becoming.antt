@@ -16,10 +16,7 @@ use Rattle.gateway.specs.Lives.{BothMayBecome, MayBecome}
 -- ---- one file
 
 pub stays : (bytes : List ℕ) → MayBecome bytes bytes
-stays bytes = elim (cases_eq (get_or bytes 0 0) 1) [
-  | inl one ↦ inr (one, ([], sym (append-nil bytes)))
-  | inr shut ↦ inl (shut, shut)
-]
+stays bytes = elim (cases_eq (get_or bytes 0 0) 1) [ inl one ↦ inr (one, ([], sym (append-nil bytes))) | inr shut ↦ inl (shut, shut) ]
 
 -- what is behind a place, if more bytes are put behind a file
 drop-longer : (n : ℕ) (xs more : List ℕ) → n ≤ length xs → drop n (xs ++ more) ≡ drop n xs ++ more
@@ -56,19 +53,15 @@ longer-holds old more h d end holds = record {
   changed = holds.changed;
 }
 
+-- what an open file keeps, if more bytes are put behind it
+kept-on : (P : List ℕ → Type 0) (old new : List ℕ) → MayBecome old new → IsOpen old → ((more : List ℕ) → P (old ++ more)) → P new
+kept-on P old new may one kept = ⊎_elim (λ shut. absurd (shut.0 one)) (λ longer. subst P (sym longer.1.1) (kept longer.1.0)) may
+
 headed-on : (old new : List ℕ) (h : Heading) → MayBecome old new → IsHeaded old h → IsHeaded new h
-headed-on old new h may on =
-    ⊎_elim
-    (λ shut. absurd (shut.0 (headed_open old h on)))
-    (λ longer. subst (λ (l : List ℕ). IsHeaded l h) (sym longer.1.1) (longer-headed old longer.1.0 h on))
-    may
+headed-on old new h may on = kept-on (λ (l : List ℕ). IsHeaded l h) old new may (headed_open old h on) (λ more. longer-headed old more h on)
 
 holds-on : (old new : List ℕ) (h : Heading) (d : Durable) (end : ℕ) → MayBecome old new → Holds old h d end → Holds new h d end
-holds-on old new h d end may holds =
-    ⊎_elim
-    (λ shut. absurd (shut.0 (headed_open old h holds.headed)))
-    (λ longer. subst (λ (l : List ℕ). Holds l h d end) (sym longer.1.1) (longer-holds old longer.1.0 h d end holds))
-    may
+holds-on old new h d end may holds = kept-on (λ (l : List ℕ). Holds l h d end) old new may (headed_open old h holds.headed) (λ more. longer-holds old more h d end holds)
 
 shut-on : (old new : List ℕ) → MayBecome old new → ¬ IsOpen old → ¬ IsOpen new
 shut-on old new may was = ⊎_elim (λ shut. shut.1) (λ longer. absurd (was longer.0)) may
@@ -88,8 +81,7 @@ none-open files A none = none.0
 none-open files B none = none.1
 
 active-on : (before files : Files) → BothMayBecome before files → (f : FileId) (h : Heading) (d : Durable) (end : ℕ) → IsActive before f h d end → IsActive files f h d end
-active-on before files may f h d end active =
-    (holds-on (before f) (files f) h d end (may f) active.0, older-on (before (other f)) (files (other f)) h.generation (may (other f)) active.1)
+active-on before files may f h d end active = (holds-on (before f) (files f) h d end (may f) active.0, older-on (before (other f)) (files (other f)) h.generation (may (other f)) active.1)
 
 pub recovers-on : (before files : Files) → BothMayBecome before files → (d : Durable) → Recovers before d → Recovers files d
 recovers-on before files may d stood =

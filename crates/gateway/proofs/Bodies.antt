@@ -10,8 +10,7 @@ use Rattle.gateway.specs.HeldAnswers.{HasGroup, entries_at, entries_in, behind_i
 
 pub length-entries : (es : List Entry) → length es ≤ length (body_bytes es)
 length-entries [] = omega arith
-length-entries (e ∷ es) =
-    omega (arith, ap length (flat_map-cons entry_bytes e es), length-append (entry_bytes e) (body_bytes es), length-entry e, length-entries es)
+length-entries (e ∷ es) = omega (arith, ap length (flat_map-cons entry_bytes e es), length-append (entry_bytes e) (body_bytes es), length-entry e, length-entries es)
 
 none_read : (n : ℕ) → entries_at n [] ≡ []
 unfolding entry_at
@@ -38,10 +37,7 @@ body_is body es are is = is ∙ ap body_bytes (sym (entries_of body es are is))
 pub are_coded : (body : List ℕ) (es : List Entry) → AreEntries es → body ≡ body_bytes es → AreEntries (entries_in body)
 are_coded body es are is = subst AreEntries (sym (entries_of body es are is)) are
 
--- there are none exactly where the body has no byte
-pub none_where_empty : (body : List ℕ) (es : List Entry) → AreEntries es → body ≡ body_bytes es → body ≡ [] → entries_in body ≡ []
-none_where_empty body es are is none = ap entries_in none
-
+-- the body has no byte if there are none
 pub empty_where_none : (body : List ℕ) (es : List Entry) → AreEntries es → body ≡ body_bytes es → entries_in body ≡ [] → body ≡ []
 empty_where_none body es are is none = body_is body es are is ∙ ap body_bytes none
 

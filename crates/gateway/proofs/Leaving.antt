@@ -29,11 +29,9 @@ IsOfBytes content = (iface : Iface) (packet : List ℕ) → content ≡ what.Pac
 -- it is as long as the one that came, which has 65,535 bytes at most
 short_sent : (s : State) (bytes : List ℕ) (way : Result _ _) → Accepted bytes → length (packet_of (sent s bytes way).1) ≤ 65535
 short_sent s bytes (Err why) fine = omega arith
-short_sent s bytes (Ok passage) fine =
-    let same = (keeps_others bytes passage.src passage.dst fine).length in let short = fine.short in omega (arith, same, short)
+short_sent s bytes (Ok passage) fine = let same = (keeps_others bytes passage.src passage.dst fine).length in let short = fine.short in omega (arith, same, short)
 
-short_routed : (config : Config) (s : State) (bytes : List ℕ) (view : View) (r : Result Route RouteFault) → Accepted bytes
-    → length (packet_of (on_route config s bytes view r).1) ≤ 65535
+short_routed : (config : Config) (s : State) (bytes : List ℕ) (view : View) (r : Result Route RouteFault) → Accepted bytes → length (packet_of (on_route config s bytes view r).1) ≤ 65535
 short_routed config s bytes view (Err fault) fine = omega arith
 short_routed config s bytes view (Ok r) fine = short_sent s bytes (leg config s view r) fine
 

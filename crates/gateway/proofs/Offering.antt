@@ -37,21 +37,14 @@ takes_in config own files were are entries s new event judged answer stays is_on
       enters = subst (λ (es : List Entry). Enters config es was.durable (lasting new)) (sym same) ((enters_once config).join were entries was.durable (lasting s) (lasting new) was.enters on);
     })
 
-right_none : (were entries : List Entry) → were ++ entries ≡ [] → entries ≡ []
-right_none were entries none =
-    let long = ap length none in let both = length-append were entries in nil_from_length entries (omega (arith, long, both))
-
-both_none : (were entries : List Entry) → were ≡ [] → entries ≡ [] → were ++ entries ≡ []
-both_none were entries none also = ap (λ (es : List Entry). es ++ entries) none ∙ also
-
 -- when an answer needn't wait
 pub at_once : (config : Config) (s : State) (event : Event) (judged : Judged) (entries were are : List Entry) (held mid : List (ℕ × Answer)) (IsNow : Type 0) → IsTrue (is_config config)
     → IsSoundState config s → IsJudged config event judged → AreEntriesOf config s judged entries → are ≡ were ++ entries → (held ≡ [] → were ≡ []) → mid ≡ held
     → IsNow ↔ (are ≡ []) → (IsNow → mid ≡ []) → IsNow ↔ ((held ≡ []) × ¬ HasEntry config s judged)
 at_once config s event judged entries were are held mid IsNow is_one sound is_judged of same none stays now quiet = (
-  λ is. (sym stays ∙ quiet is, empty-needs config is_one s judged entries sound is_judged.right of (right_none were entries (sym same ∙ now.0 is))),
+  λ is. (sym stays ∙ quiet is, empty-needs config is_one s judged entries sound is_judged.right of (nil_from_length entries (let long = ap length (sym same ∙ now.0 is) in omega (arith, long, length-append were entries)))),
   λ (both : (held ≡ []) × ¬ HasEntry config s judged).
-      now.1 (same ∙ both_none were entries (none both.0) (needs-empty config is_one s judged entries sound is_judged.right of both.1)),
+      now.1 (same ∙ ap (λ (es : List Entry). es ++ entries) (none both.0) ∙ needs-empty config is_one s judged entries sound is_judged.right of both.1),
 )
 
 -- an event with nothing that must survive has no entries
@@ -80,12 +73,6 @@ few_distinct (x ∷ xs) ys distinct within =
     let long = r.1 in
     omega (arith, rest, long)
 
-pub few_over : (config : Config) (s : State) (now : ℕ) (gone : List Session) → IsSoundState config s → AreOver now s.sessions gone → length gone ≤ 65536
-few_over config s now gone sound over =
-    let few = few_distinct gone s.sessions over.distinct (λ t is. (over.over t is).0) in
-    let most = sound.sessions.at_most in
-    omega (arith, few, most)
-
 pub few_bytes : (config : Config) (d : Deed) → IsRight config d → most_bytes d ≤ 262149
 few_bytes config (deed.Take text rules) right = let short = right.0 in omega (arith, short)
 few_bytes config (deed.Refuse text) right = omega arith
@@ -96,10 +83,12 @@ few_bytes config deed.Moment right = omega arith
 pub roomy_enough : (config : Config) (s : State) (now filled : ℕ) (gone : List Session) (d : Deed) → IsSoundState config s → AreOver now s.sessions gone → IsRight config d → IsRoomy filled
     → 67108864 < filled + (14 * length gone + most_bytes d) + 6 → ⊥
 roomy_enough config s now filled gone d sound over right roomy too =
-    let few = few_over config s now gone sound over in let bytes = few_bytes config d right in omega (arith, roomy, too, few, bytes)
+    let few = few_distinct gone s.sessions over.distinct (λ t is. (over.over t is).0) in
+    let most = sound.sessions.at_most in
+    let bytes = few_bytes config d right in
+    omega (arith, roomy, too, few, most, bytes)
 
 -- an event whose answer is handed out, so that none is held, found none held
 pub held_before : (given : Given) (before now : List (ℕ × Answer)) (one : ℕ × Answer) → handed given ++ now ≡ before ++ one ∷ [] → now ≡ [] → before ≡ []
-held_before (given.Now number answer) before now one order none =
-    nil_from_length before (omega (arith, ap length order, ap length none, length-append before (one ∷ [])))
+held_before (given.Now number answer) before now one order none = nil_from_length before (omega (arith, ap length order, ap length none, length-append before (one ∷ [])))
 held_before (given.Held number) before now one order none = absurd (omega (arith, ap length order, ap length none, length-append before (one ∷ [])))

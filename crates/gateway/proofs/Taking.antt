@@ -46,22 +46,12 @@ took_more first now new es e out given all one =
     let js = all.judged in
     let j = one.judged in
     let last : new.last ≡ first.last + length (es ++ e ∷ []) = omega (arith, one.last, all.last, length-append es (e ∷ [])) in
-    let same : step now.config now.state j ≡ step first.config (after first.config first.state js) j =
-    ap (λ c. step c now.state j) all.config ∙ ap (λ s. step first.config s j) all.state in
     let number : now.last + 1 ≡ first.last + length js + 1 = omega (arith, all.last, AreJudged-length first.config es js all.are_judged) in
-    let answer : (now.last + 1, (step now.config now.state j).1) ≡ (first.last + length js + 1, (step first.config (after first.config first.state js) j).1) =
-    ap (λ n. (n, (step now.config now.state j).1)) number ∙ ap (λ (p : State × Answer). (first.last + length js + 1, p.1)) same in
     record {
       judged = js ++ j ∷ [];
       are_judged = AreJudged-append first.config es (e ∷ []) js (j ∷ []) all.are_judged (AreJudged-one first.config e j (subst (λ c. IsJudged c e j) all.config one.is_judged));
       config = one.config ∙ all.config;
-      state = one.state ∙ ap (λ (p : State × Answer). p.0) same ∙ sym (after-append first.config first.state js (j ∷ []));
+      state = rw (after-append first.config first.state js) (rw (all.config, all.state) at one.state);
       last = last;
-      order =
-          append_assoc out (handed given) new.held ∙ ap (λ (zs : List (ℕ × Answer)). out ++ zs) one.order
-          ∙ sym (append_assoc out now.held ((now.last + 1, (step now.config now.state j).1) ∷ []))
-          ∙ ap (λ (zs : List (ℕ × Answer)). zs ++ (now.last + 1, (step now.config now.state j).1) ∷ []) all.order
-          ∙ append_assoc first.held (numbered first.last (answers first.config first.state js)) ((now.last + 1, (step now.config now.state j).1) ∷ [])
-          ∙ ap (λ a. first.held ++ (numbered first.last (answers first.config first.state js) ++ a ∷ [])) answer
-          ∙ ap (λ (zs : List (ℕ × Answer)). first.held ++ zs) (sym (one_more first.config first.state first.last js j));
+      order = rw (append_assoc out (handed given) new.held, one.order, ← append_assoc out now.held, all.order, append_assoc first.held, one_more first.config first.state first.last js j, all.config, all.state, number);
     }

@@ -15,31 +15,25 @@ returns-in_err-compact_settled-clause-err g c =
     let p = err_from_is_err_and c.from_residual-in_err-compact_settled.result c.from_residual-in_err-compact_settled.ensures.1 in
     let s = c.in_ok-settle.ensures in
     let e = c.in_err-compact_settled.ensures in
-    let told = e.told in
-    let why = c.in_err-compact_settled.field-0.0 in
-    rw (p.1, p.2) (fails-then g.D.Disk.honest g.D.Disk.moment g.D.Disk.left g.D.Disk.failed c.args.gateway.now c.settle.new.gateway c.compact_settled.new.gateway
-    (proceeds-settled g.D.Disk.honest g.D.Disk.moment g.D.Disk.left g.D.Disk.failed c.args.gateway.now c.settle.new.gateway s.ok s.none) [] why s.state s.last
-    (fails-held g.D.Disk.honest g.D.Disk.moment g.D.Disk.left g.D.Disk.failed c.settle.new.gateway c.compact_settled.new.gateway [] why e.err
-    (ap (λ (t : Told). t.held) told) (ap (λ (t : Told). t.state) told) (ap (λ (t : Told). t.last) told)))
+    rw (p.1, p.2) (fails-then (proceeds-settled g.D.Disk.honest g.D.Disk.moment g.D.Disk.left g.D.Disk.failed c.args.gateway.now c.settle.new.gateway s.ok s.none) s.state s.last
+    (fails-held g.D.Disk.honest g.D.Disk.moment g.D.Disk.left g.D.Disk.failed c.settle.new.gateway c.compact_settled.new.gateway [] c.in_err-compact_settled.field-0.0 e.err
+    (ap (λ (t : Told). t.held) e.told) (ap (λ (t : Told). t.state) e.told) (ap (λ (t : Told). t.last) e.told)))
 
 pub returns-clause-ok : goal.returns-clause-ok
 returns-clause-ok g c =
     let s = c.in_ok-settle.ensures in
     let e = c.in_ok-compact_settled.ensures in
-    proceeds-then g.D.Disk.honest g.D.Disk.moment g.D.Disk.left g.D.Disk.failed c.args.gateway.now c.settle.new.gateway c.compact_settled.new.gateway
-    (proceeds-settled g.D.Disk.honest g.D.Disk.moment g.D.Disk.left g.D.Disk.failed c.args.gateway.now c.settle.new.gateway s.ok s.none) [] []
+    proceeds-then (proceeds-settled g.D.Disk.honest g.D.Disk.moment g.D.Disk.left g.D.Disk.failed c.args.gateway.now c.settle.new.gateway s.ok s.none)
     (proceeds-held g.D.Disk.honest g.D.Disk.moment g.D.Disk.left g.D.Disk.failed c.settle.new.gateway c.compact_settled.new.gateway e.ok (ap (λ (t : Told). t.held) e.told))
 
 pub returns-in_err-compact_settled-clause-any_moment : goal.returns-in_err-compact_settled-clause-any_moment
 returns-in_err-compact_settled-clause-any_moment g c =
     let s = c.in_ok-settle.ensures in
-    safe-then g.D.Disk.honest g.D.Disk.moment g.D.Disk.left g.D.Disk.failed c.args.gateway.now c.settle.new.gateway c.compact_settled.new.gateway
-    (proceeds-settled g.D.Disk.honest g.D.Disk.moment g.D.Disk.left g.D.Disk.failed c.args.gateway.now c.settle.new.gateway s.ok s.none)
-    g.met.D.Disk.earlier s.any_moment c.in_err-compact_settled.ensures.any_moment
+    safe-then (proceeds-settled g.D.Disk.honest g.D.Disk.moment g.D.Disk.left g.D.Disk.failed c.args.gateway.now c.settle.new.gateway s.ok s.none)
+    c.compact_settled.new.gateway g.met.D.Disk.earlier s.any_moment c.in_err-compact_settled.ensures.any_moment
 
 pub returns-clause-any_moment : goal.returns-clause-any_moment
 returns-clause-any_moment g c =
     let s = c.in_ok-settle.ensures in
-    safe-then g.D.Disk.honest g.D.Disk.moment g.D.Disk.left g.D.Disk.failed c.args.gateway.now c.settle.new.gateway c.compact_settled.new.gateway
-    (proceeds-settled g.D.Disk.honest g.D.Disk.moment g.D.Disk.left g.D.Disk.failed c.args.gateway.now c.settle.new.gateway s.ok s.none)
-    g.met.D.Disk.earlier s.any_moment c.in_ok-compact_settled.ensures.any_moment
+    safe-then (proceeds-settled g.D.Disk.honest g.D.Disk.moment g.D.Disk.left g.D.Disk.failed c.args.gateway.now c.settle.new.gateway s.ok s.none)
+    c.compact_settled.new.gateway g.met.D.Disk.earlier s.any_moment c.in_ok-compact_settled.ensures.any_moment

@@ -1,15 +1,14 @@
 use Rattle.std.proofs.Common.{[], refl}
 use Rattle.std.proofs.lemmas.Result.{err_from_is_err_and}
 use Rattle.gateway.proofs.Proceeding.{fails-held, proceeds-none, proceeds-settled}
-use Rattle.gateway.proofs.Runs.{still-within}
+use Rattle.gateway.proofs.Runs.{still}
 use Rattle.gateway.proofs.in_place.settle_held_full.Goals as goal
 
 pub returns-then-held-lt-MOST_HELD-clause-ok : goal.returns-then-held-lt-MOST_HELD-clause-ok
 returns-then-held-lt-MOST_HELD-clause-ok g c = proceeds-none g.D.Disk.honest g.D.Disk.moment g.D.Disk.left g.D.Disk.failed c.args.gateway.now
 
 pub returns-then-held-lt-MOST_HELD-clause-any_moment : goal.returns-then-held-lt-MOST_HELD-clause-any_moment
-returns-then-held-lt-MOST_HELD-clause-any_moment g c = λ before start events s ready.
-    still-within g.D.Disk.honest g.D.Disk.moment g.D.Disk.left g.D.Disk.seen g.D.Disk.failed g.met.D.Disk.reads g.met.D.Disk.earlier start c.args.gateway.now events before s c.args.gateway.now refl ready
+returns-then-held-lt-MOST_HELD-clause-any_moment g c = still _ _ _ _ g.met.D.Disk.earlier _ c.args.gateway.now refl
 
 pub returns-in_err-settle-clause-err : goal.returns-in_err-settle-clause-err
 returns-in_err-settle-clause-err g c =

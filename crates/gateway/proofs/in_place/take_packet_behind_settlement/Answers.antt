@@ -10,33 +10,28 @@ pub returns-in_err-settle_held_full-clause-err : goal.returns-in_err-settle_held
 returns-in_err-settle_held_full-clause-err g c =
     let event : Event = record { moment = c.args.moment; what = Packet c.args.iface c.args.packet.now } in
     let p = err_from_is_err_and c.from_residual.result c.from_residual.ensures.1 in
-    rw (p.1, p.2) (fails-before g.D.Disk.honest g.D.Disk.moment g.D.Disk.left g.D.Disk.failed c.args.gateway.now c.settle_held_full.new.gateway
-    (event ∷ []) c.in_err-settle_held_full.field-0.0 c.in_err-settle_held_full.ensures.err)
+    rw (p.1, p.2) (fails-before (event ∷ []) c.in_err-settle_held_full.ensures.err)
 
 pub returns-in-Ok-clause-ok : goal.returns-in-Ok-clause-ok
-returns-in-Ok-clause-ok g c =
-    proceeds-then g.D.Disk.honest g.D.Disk.moment g.D.Disk.left g.D.Disk.failed c.args.gateway.now c.settle_held_full.new.gateway c.offer_packet.new.gateway
-    c.in_ok-settle_held_full.ensures.ok _ _ c.in-Ok.ensures.ok
+returns-in-Ok-clause-ok g c = proceeds-then c.in_ok-settle_held_full.ensures.ok c.in-Ok.ensures.ok
 
 pub returns-in-Ok-clause-any_moment : goal.returns-in-Ok-clause-any_moment
 returns-in-Ok-clause-any_moment g c =
     let s = c.in_ok-settle_held_full.ensures in
-    safe-then g.D.Disk.honest g.D.Disk.moment g.D.Disk.left g.D.Disk.failed c.args.gateway.now c.settle_held_full.new.gateway c.offer_packet.new.gateway
-    s.ok g.met.D.Disk.earlier s.any_moment c.offer_packet.ensures.any_moment
+    safe-then s.ok c.offer_packet.new.gateway g.met.D.Disk.earlier s.any_moment c.offer_packet.ensures.any_moment
 
 -- it is refused for another reason
 
 pub returns-then-not-is_full-clause-err : goal.returns-then-not-is_full-clause-err
 returns-then-not-is_full-clause-err g c =
     let s = c.in_ok-settle_held_full.ensures in
-    fails-then g.D.Disk.honest g.D.Disk.moment g.D.Disk.left g.D.Disk.failed c.args.gateway.now c.settle_held_full.new.gateway c.offer_packet.new.gateway
-    s.ok _ c.in-Err.fault s.state s.last (c.in-Err.ensures.err.2 (λ full. absurd (false≢true (sym c.if-not-is_full.true ∙ c.is_full.ensures.1 full))) (c.in-Err.ensures.err.4 s.few))
+    let refused = c.in-Err.ensures.err in
+    fails-then s.ok s.state s.last (refused.2 (λ full. absurd (false≢true (sym c.if-not-is_full.true ∙ c.is_full.ensures.1 full))) (refused.4 s.few))
 
 pub returns-then-not-is_full-clause-any_moment : goal.returns-then-not-is_full-clause-any_moment
 returns-then-not-is_full-clause-any_moment g c =
     let s = c.in_ok-settle_held_full.ensures in
-    safe-then g.D.Disk.honest g.D.Disk.moment g.D.Disk.left g.D.Disk.failed c.args.gateway.now c.settle_held_full.new.gateway c.offer_packet.new.gateway
-    s.ok g.met.D.Disk.earlier s.any_moment c.offer_packet.ensures.any_moment
+    safe-then s.ok c.offer_packet.new.gateway g.met.D.Disk.earlier s.any_moment c.offer_packet.ensures.any_moment
 
 -- the file was full
 
@@ -44,27 +39,19 @@ pub returns-in_err-make_room-clause-err : goal.returns-in_err-make_room-clause-e
 returns-in_err-make_room-clause-err g c =
     let event : Event = record { moment = c.args.moment; what = Packet c.args.iface c.args.packet.now } in
     let s = c.in_ok-settle_held_full.ensures in
-    let refused = c.in-Err.ensures.err in
     let p = err_from_is_err_and c.from_residual-in_err-make_room.result c.from_residual-in_err-make_room.ensures.1 in
-    let why = c.in_err-make_room.field-0.0 in
-    rw (p.1, p.2) (fails-before g.D.Disk.honest g.D.Disk.moment g.D.Disk.left g.D.Disk.failed c.args.gateway.now c.make_room.new.gateway (event ∷ []) why
-    (fails-then g.D.Disk.honest g.D.Disk.moment g.D.Disk.left g.D.Disk.failed c.args.gateway.now c.settle_held_full.new.gateway c.make_room.new.gateway
-    s.ok [] why s.state s.last (rw refused.0 at c.in_err-make_room.ensures.err)))
+    rw (p.1, p.2) (fails-before (event ∷ []) (fails-then s.ok s.state s.last (rw c.in-Err.ensures.err.0 at c.in_err-make_room.ensures.err)))
 
 pub returns-in_err-make_room-clause-any_moment : goal.returns-in_err-make_room-clause-any_moment
 returns-in_err-make_room-clause-any_moment g c =
     let s = c.in_ok-settle_held_full.ensures in
-    safe-then g.D.Disk.honest g.D.Disk.moment g.D.Disk.left g.D.Disk.failed c.args.gateway.now c.settle_held_full.new.gateway c.make_room.new.gateway
-    s.ok g.met.D.Disk.earlier s.any_moment (rw c.in-Err.ensures.err.0 at c.in_err-make_room.ensures.any_moment)
+    safe-then s.ok c.make_room.new.gateway g.met.D.Disk.earlier s.any_moment (rw c.in-Err.ensures.err.0 at c.in_err-make_room.ensures.any_moment)
 
 pub returns-clause-ok : goal.returns-clause-ok
 returns-clause-ok g c =
     let refused = c.in-Err.ensures.err in
     IfOk-weaker c.offer_packet-2.result _ _ (λ taken t.
-    proceeds-then g.D.Disk.honest g.D.Disk.moment g.D.Disk.left g.D.Disk.failed c.args.gateway.now c.settle_held_full.new.gateway c.offer_packet-2.new.gateway
-    c.in_ok-settle_held_full.ensures.ok _ _
-    (proceeds-then g.D.Disk.honest g.D.Disk.moment g.D.Disk.left g.D.Disk.failed c.settle_held_full.new.gateway c.make_room.new.gateway c.offer_packet-2.new.gateway
-    (rw refused.0 at c.in_ok-make_room.ensures.ok) _ _ (rw refused.1 at t)))
+    proceeds-then c.in_ok-settle_held_full.ensures.ok (proceeds-then (rw refused.0 at c.in_ok-make_room.ensures.ok) (rw refused.1 at t)))
     c.offer_packet-2.ensures.ok
 
 pub returns-clause-err : goal.returns-clause-err
@@ -72,11 +59,8 @@ returns-clause-err g c =
     let refused = c.in-Err.ensures.err in
     let s = c.in_ok-settle_held_full.ensures in
     let r = c.in_ok-make_room.ensures in
-    IfErr-weaker c.offer_packet-2.result _ _ (λ why again.
-    fails-then g.D.Disk.honest g.D.Disk.moment g.D.Disk.left g.D.Disk.failed c.args.gateway.now c.settle_held_full.new.gateway c.offer_packet-2.new.gateway
-    s.ok _ why s.state s.last
-    (fails-then g.D.Disk.honest g.D.Disk.moment g.D.Disk.left g.D.Disk.failed c.settle_held_full.new.gateway c.make_room.new.gateway c.offer_packet-2.new.gateway
-    (rw refused.0 at r.ok) _ why (rw refused.0 at r.state) (rw refused.0 at r.last) (rw refused.1 at (again.2 (again.3 r.roomy) (again.4 (omega (arith, ap length r.none)))))))
+    IfErr-weaker c.offer_packet-2.result _ _ (λ why again. fails-then s.ok s.state s.last
+    (fails-then (rw refused.0 at r.ok) (rw refused.0 at r.state) (rw refused.0 at r.last) (rw refused.1 at (again.2 (again.3 r.roomy) (again.4 (omega (arith, ap length r.none)))))))
     c.offer_packet-2.ensures.err
 
 pub returns-clause-any_moment : goal.returns-clause-any_moment
@@ -85,7 +69,5 @@ returns-clause-any_moment g c =
     let s = c.in_ok-settle_held_full.ensures in
     let r = c.in_ok-make_room.ensures in
     let room = rw refused.0 at r.any_moment in
-    safe-then g.D.Disk.honest g.D.Disk.moment g.D.Disk.left g.D.Disk.failed c.args.gateway.now c.settle_held_full.new.gateway c.offer_packet-2.new.gateway
-    s.ok g.met.D.Disk.earlier s.any_moment
-    (safe-then g.D.Disk.honest g.D.Disk.moment g.D.Disk.left g.D.Disk.failed c.settle_held_full.new.gateway c.make_room.new.gateway c.offer_packet-2.new.gateway
-    (rw refused.0 at r.ok) g.met.D.Disk.earlier room c.offer_packet-2.ensures.any_moment)
+    safe-then s.ok c.offer_packet-2.new.gateway g.met.D.Disk.earlier s.any_moment
+    (safe-then (rw refused.0 at r.ok) c.offer_packet-2.new.gateway g.met.D.Disk.earlier room c.offer_packet-2.ensures.any_moment)

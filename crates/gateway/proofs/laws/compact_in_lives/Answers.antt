@@ -1,9 +1,10 @@
-use Rattle.gateway.proofs.Living.{compacted-in-life, compact-ends, stops-at-present}
+use Rattle.gateway.proofs.Living.{compacted-in-life, compact-ends, compact-stops}
 use Rattle.gateway.proofs.laws.compact_in_lives.Goals as goal
 
 pub returns-clause-stopped : goal.returns-clause-stopped
-returns-clause-stopped g c = stops-at-present g.D.Disk.honest g.D.Disk.moment g.D.Disk.left g.D.Disk.seen g.D.Disk.failed g.met.D.Disk.reads g.met.D.Disk.earlier c.args.gateway.now c.compact.new.self
-    c.compact.ensures.any_moment c.compact.ensures.configured
+returns-clause-stopped g c =
+    let e = c.compact.ensures in
+    compact-stops g.D.Disk.honest g.D.Disk.moment g.D.Disk.left g.D.Disk.seen g.D.Disk.failed g.met.D.Disk.reads g.met.D.Disk.earlier c.args.gateway.now c.compact.new.self e.honest e.stays_honest e.configured e.any_moment e.told
 
 pub returns-clause-ok : goal.returns-clause-ok
 returns-clause-ok g c =
@@ -14,5 +15,4 @@ returns-clause-ok g c =
 pub returns-clause-err : goal.returns-clause-err
 returns-clause-err g c =
     let e = c.compact.ensures in
-    compact-ends g.D.Disk.honest g.D.Disk.moment g.D.Disk.left g.D.Disk.seen g.D.Disk.failed g.met.D.Disk.reads g.met.D.Disk.earlier c.args.gateway.now c.compact.new.self
-    e.honest e.stays_honest e.configured e.any_moment e.told c.compact.result
+    compact-ends g.D.Disk.honest g.D.Disk.moment g.D.Disk.left g.D.Disk.seen g.D.Disk.failed g.met.D.Disk.reads g.met.D.Disk.earlier c.args.gateway.now c.compact.new.self e.honest e.stays_honest e.configured e.any_moment e.told c.compact.result

@@ -6,24 +6,18 @@ use Rattle.gateway.proofs.running.compact.Goals as goal
 pub returns-clause-ok : goal.returns-clause-ok
 returns-clause-ok g c =
     let out = c.hand_out.new.answers.items in
-    on_ok_weaker c.compact_settled.result (λ ok before.
-    carries-then g.D.Disk.honest g.D.Disk.moment g.D.Disk.left g.D.Disk.failed c.args.gateway.now c.hand_out.new.gateway c.compact_settled.new.gateway [] [] (before ++ c.args.answers.now.items) (before ++ out) (before ++ out)
-    (c.in_ok-hand_out.ensures.ok before) (ok (before ++ out)))
-    c.compact_settled.ensures.ok
+    on_ok_weaker c.compact_settled.result (λ ok before. carries-then _ _ _ _ _ _ _ [] [] _ _ _ (c.in_ok-hand_out.ensures.ok before) (ok (before ++ out))) c.compact_settled.ensures.ok
 
 pub returns-clause-err : goal.returns-clause-err
 returns-clause-err g c =
     let out = c.hand_out.new.answers.items in
-    IfErr-weaker c.compact_settled.result _ _ (λ why breaks before.
-    breaks-then g.D.Disk.honest g.D.Disk.moment g.D.Disk.left g.D.Disk.failed c.args.gateway.now c.hand_out.new.gateway c.compact_settled.new.gateway [] [] (before ++ c.args.answers.now.items) (before ++ out) (before ++ out) why
-    (c.in_ok-hand_out.ensures.ok before) (breaks (before ++ out)))
-    c.compact_settled.ensures.err
+    IfErr-weaker c.compact_settled.result _ _ (λ why breaks before. breaks-then _ _ _ _ _ _ _ [] [] _ _ _ why (c.in_ok-hand_out.ensures.ok before) (breaks (before ++ out))) c.compact_settled.ensures.err
 
 pub returns-clause-any_moment : goal.returns-clause-any_moment
 returns-clause-any_moment g c =
     let h = c.in_ok-hand_out.ensures in
     let old = c.args.answers.now.items in
     let out = c.hand_out.new.answers.items in
-    λ before. within-then g.D.Disk.honest g.D.Disk.moment g.D.Disk.left g.D.Disk.failed g.met.D.Disk.earlier c.args.gateway.now c.hand_out.new.gateway c.compact_settled.new.gateway (before ++ old) (before ++ out) (h.any_moment before) (h.ok before)
+    λ before. within-then _ _ _ _ g.met.D.Disk.earlier _ _ c.compact_settled.new.gateway _ _ (h.any_moment before) (h.ok before)
     (more-behind before old out (omega (arith, ap length h.items, length-append old c.args.gateway.now.told.held)))
     (c.compact_settled.ensures.any_moment (before ++ out))

@@ -2,36 +2,27 @@ use Rattle.std.proofs.Common.{◌++◌, ◌∷◌, [], List, ℕ, ap, append_ass
 use Rattle.std.proofs.lemmas.Result.{err_from_is_err_and}
 use Rattle.machine.specs.declared.event.Answer.{Answer}
 use Rattle.gateway.specs.Given.{handed}
-use Rattle.gateway.specs.Running.{Stands, Ends}
-use Rattle.gateway.proofs.Runs.{ended, few-fit, offered, offer-why, breaks-here, still-within}
+use Rattle.gateway.specs.Running.{Stands}
+use Rattle.gateway.proofs.Runs.{breaks-same, few-fit, offered, offer-why, still}
 use Rattle.gateway.proofs.running.offer.Goals as goal
 
 pub returns-in_err-given-clause-why : goal.returns-in_err-given-clause-why
 returns-in_err-given-clause-why g c =
     let p = err_from_is_err_and c.from_residual.result c.from_residual.ensures.1 in
     let e = c.in_err-given.ensures in
-    rw (p.1, p.2) (λ full before. breaks-here g.D.Disk.honest g.D.Disk.moment g.D.Disk.left g.D.Disk.failed c.args.gateway.now c.offer.new.self _ (before ++ c.args.answers.now.items) (before ++ c.args.answers.now.items) c.in_err-given.field-0.0.1
-    (λ start events s. record {
-      ends = subst (λ n. Ends g.D.Disk.honest g.D.Disk.moment g.D.Disk.left g.D.Disk.failed start n events (before ++ c.args.answers.now.items)) (sym e.err.1)
-          (ended g.D.Disk.honest g.D.Disk.moment g.D.Disk.left g.D.Disk.seen g.D.Disk.failed g.met.D.Disk.reads g.met.D.Disk.earlier start c.args.gateway.now events (before ++ c.args.answers.now.items) s);
-      is_why = offer-why g.D.Disk.honest g.D.Disk.moment g.D.Disk.left g.D.Disk.seen g.D.Disk.failed g.met.D.Disk.reads g.met.D.Disk.earlier start
-          c.args.gateway.now events (before ++ c.args.answers.now.items) s c.offer.new.self c.in_err-given.field-0.0.1 e.err.1 (few-fit c.args.gateway.now _ c.requires.few e.held_full) e.reopen e.numbers_out e.causes full;
-      stays = λ other. subst (λ n. Stands g.D.Disk.honest g.D.Disk.moment g.D.Disk.left g.D.Disk.failed start n events (before ++ c.args.answers.now.items)) (sym e.err.1) s;
-    }))
+    let why = c.in_err-given.field-0.0.1 in
+    rw (p.1, p.2) (λ full before. breaks-same g.D.Disk.honest g.D.Disk.moment g.D.Disk.left g.D.Disk.failed c.args.gateway.now c.offer.new.self _ why e.err.1
+    (λ start events out s. offer-why s why (few-fit c.args.gateway.now why c.requires.few e.held_full) e.reopen e.numbers_out e.causes full) (before ++ c.args.answers.now.items))
 
 pub returns-clause-ok : goal.returns-clause-ok
 returns-clause-ok g c = λ before start events s.
     let e = c.in_ok-given.ensures in
-    subst (λ (out : List (ℕ × Answer)). Stands g.D.Disk.honest g.D.Disk.moment g.D.Disk.left g.D.Disk.failed start c.offer.new.self (events ++ c.args.event ∷ []) out) (append_assoc before c.args.answers.now.items (handed c.in_ok-given.given) ∙ ap (λ (l : List (ℕ × Answer)). before ++ l) (sym {A = List (ℕ × Answer)} c.put.ensures.items))
-    (offered g.D.Disk.honest g.D.Disk.moment g.D.Disk.left g.D.Disk.seen g.D.Disk.failed g.met.D.Disk.reads g.met.D.Disk.earlier start
-    c.args.gateway.now events (before ++ c.args.answers.now.items) s c.offer.new.self c.args.event c.in_ok-given.given c.facts.ensures.config c.facts.ensures.sound e.disk e.fallen e.took e.now)
+    subst (λ (out : List (ℕ × Answer)). Stands g.D.Disk.honest g.D.Disk.moment g.D.Disk.left g.D.Disk.failed start c.offer.new.self (events ++ c.args.event ∷ []) out)
+    (append_assoc before c.args.answers.now.items (handed c.in_ok-given.given) ∙ ap (λ (l : List (ℕ × Answer)). before ++ l) (sym {A = List (ℕ × Answer)} c.put.ensures.items))
+    (offered s c.offer.new.self c.args.event c.in_ok-given.given c.facts.ensures.config c.facts.ensures.sound e.disk e.fallen e.took e.now)
 
 pub returns-in_err-given-clause-any_moment : goal.returns-in_err-given-clause-any_moment
-returns-in_err-given-clause-any_moment g c = λ before start events s ready.
-    still-within g.D.Disk.honest g.D.Disk.moment g.D.Disk.left g.D.Disk.seen g.D.Disk.failed g.met.D.Disk.reads g.met.D.Disk.earlier start
-    c.args.gateway.now events (before ++ c.args.answers.now.items) s c.offer.new.self c.in_err-given.ensures.disk ready
+returns-in_err-given-clause-any_moment g c = λ before. still _ _ _ _ g.met.D.Disk.earlier _ c.offer.new.self c.in_err-given.ensures.disk (before ++ c.args.answers.now.items)
 
 pub returns-clause-any_moment : goal.returns-clause-any_moment
-returns-clause-any_moment g c = λ before start events s ready.
-    still-within g.D.Disk.honest g.D.Disk.moment g.D.Disk.left g.D.Disk.seen g.D.Disk.failed g.met.D.Disk.reads g.met.D.Disk.earlier start
-    c.args.gateway.now events (before ++ c.args.answers.now.items) s c.offer.new.self c.in_ok-given.ensures.disk ready
+returns-clause-any_moment g c = λ before. still _ _ _ _ g.met.D.Disk.earlier _ c.offer.new.self c.in_ok-given.ensures.disk (before ++ c.args.answers.now.items)

@@ -7,13 +7,10 @@ use Rattle.gateway.proofs.running.take.Goals as goal
 pub returns-in_err-flush_held_full-clause-err : goal.returns-in_err-flush_held_full-clause-err
 returns-in_err-flush_held_full-clause-err g c =
     let p = err_from_is_err_and c.from_residual.result c.from_residual.ensures.1 in
-    rw (p.1, p.2) (λ before. breaks-before g.D.Disk.honest g.D.Disk.moment g.D.Disk.left g.D.Disk.failed c.args.gateway.now c.flush_held_full.new.gateway [] (c.args.event ∷ [])
-    (before ++ c.args.answers.now.items) (before ++ c.flush_held_full.new.answers.items) _ (c.in_err-flush_held_full.ensures.err before))
+    rw (p.1, p.2) (λ before. breaks-before _ _ _ _ _ _ [] (c.args.event ∷ []) _ _ _ (c.in_err-flush_held_full.ensures.err before))
 
 pub returns-in_default-clause-ok : goal.returns-in_default-clause-ok
-returns-in_default-clause-ok g c = λ before.
-    carries-then g.D.Disk.honest g.D.Disk.moment g.D.Disk.left g.D.Disk.failed c.args.gateway.now c.flush_held_full.new.gateway c.offer.new.gateway [] (c.args.event ∷ [])
-    (before ++ c.args.answers.now.items) (before ++ c.flush_held_full.new.answers.items) (before ++ c.offer.new.answers.items) (c.in_ok-flush_held_full.ensures.ok before) (c.in_default.ensures.ok before)
+returns-in_default-clause-ok g c = λ before. carries-then _ _ _ _ _ _ _ [] (c.args.event ∷ []) _ _ _ (c.in_ok-flush_held_full.ensures.ok before) (c.in_default.ensures.ok before)
 
 pub returns-then-is_full-clause-ok : goal.returns-then-is_full-clause-ok
 returns-then-is_full-clause-ok g c =
@@ -31,25 +28,21 @@ returns-then-is_full-clause-err g c =
 
 pub returns-clause-err : goal.returns-clause-err
 returns-clause-err g c = λ before.
-    breaks-then g.D.Disk.honest g.D.Disk.moment g.D.Disk.left g.D.Disk.failed c.args.gateway.now c.flush_held_full.new.gateway c.offer.new.gateway [] (c.args.event ∷ [])
-    (before ++ c.args.answers.now.items) (before ++ c.flush_held_full.new.answers.items) (before ++ c.offer.new.answers.items) c.in-Err.fault
-    (c.in_ok-flush_held_full.ensures.ok before) (c.in-Err.ensures.why (λ full. false≢true (sym c.if-is_full.false ∙ c.is_full.ensures.1 full)) before)
+    breaks-then _ _ _ _ _ _ _ [] (c.args.event ∷ []) _ _ _ _ (c.in_ok-flush_held_full.ensures.ok before) (c.in-Err.ensures.why (λ full. false≢true (sym c.if-is_full.false ∙ c.is_full.ensures.1 full)) before)
 
 pub returns-in_default-clause-any_moment : goal.returns-in_default-clause-any_moment
 returns-in_default-clause-any_moment g c =
     let f = c.in_ok-flush_held_full.ensures in
-    λ before. within-then g.D.Disk.honest g.D.Disk.moment g.D.Disk.left g.D.Disk.failed g.met.D.Disk.earlier c.args.gateway.now c.flush_held_full.new.gateway c.offer.new.gateway (before ++ c.args.answers.now.items) (before ++ c.flush_held_full.new.answers.items)
-    (f.any_moment before) (f.ok before) (more-behind before _ _ f.more) (c.in_default.ensures.any_moment before)
+    λ before. within-then _ _ _ _ g.met.D.Disk.earlier _ _ c.offer.new.gateway _ _ (f.any_moment before) (f.ok before) (more-behind before _ _ f.more) (c.in_default.ensures.any_moment before)
 
 pub returns-then-is_full-clause-any_moment : goal.returns-then-is_full-clause-any_moment
 returns-then-is_full-clause-any_moment g c =
     let same = c.in-Err.ensures.err in
     let f = c.in_ok-flush_held_full.ensures in
-    λ before. within-then g.D.Disk.honest g.D.Disk.moment g.D.Disk.left g.D.Disk.failed g.met.D.Disk.earlier c.args.gateway.now c.flush_held_full.new.gateway c.take_behind_compaction.new.gateway (before ++ c.args.answers.now.items) (before ++ c.flush_held_full.new.answers.items)
+    λ before. within-then _ _ _ _ g.met.D.Disk.earlier _ c.flush_held_full.new.gateway c.take_behind_compaction.new.gateway _ (before ++ c.flush_held_full.new.answers.items)
     (f.any_moment before) (f.ok before) (more-behind before _ _ f.more) (rw (← same.1, ← same.2) (c.take_behind_compaction.ensures.any_moment before))
 
 pub returns-clause-any_moment : goal.returns-clause-any_moment
 returns-clause-any_moment g c =
     let f = c.in_ok-flush_held_full.ensures in
-    λ before. within-then g.D.Disk.honest g.D.Disk.moment g.D.Disk.left g.D.Disk.failed g.met.D.Disk.earlier c.args.gateway.now c.flush_held_full.new.gateway c.offer.new.gateway (before ++ c.args.answers.now.items) (before ++ c.flush_held_full.new.answers.items)
-    (f.any_moment before) (f.ok before) (more-behind before _ _ f.more) (c.in-Err.ensures.any_moment before)
+    λ before. within-then _ _ _ _ g.met.D.Disk.earlier _ _ c.offer.new.gateway _ _ (f.any_moment before) (f.ok before) (more-behind before _ _ f.more) (c.in-Err.ensures.any_moment before)

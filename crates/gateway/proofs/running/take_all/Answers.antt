@@ -1,10 +1,10 @@
-use Rattle.std.proofs.Common.{◌++◌, ◌∷◌, [], List, ℕ, refl, sym, ◌∙◌, ap, subst, append_assoc, arith, length, length-append, rules}
+use Rattle.std.proofs.Common.{◌++◌, ◌∷◌, [], List, ℕ, refl, sym, ◌∙◌, ap, subst, append_assoc, arith, length, rules}
 use Rattle.std.proofs.lemmas.List.{append-nil, nil_from_length}
 use Rattle.std.proofs.lemmas.Result.{err_from_is_err_and, IfErr-weaker, on_ok_weaker}
 use Rattle.machine.specs.declared.event.Answer.{Answer}
 use Rattle.machine.specs.declared.event.Event.{Event}
-use Rattle.gateway.specs.Running.{CarriesOn, SafeThrough, Stands}
-use Rattle.gateway.proofs.Runs.{breaks-last, breaks-none, breaks-within, carries-none, carries-then, ended, still-within, through-last, through-then, within-through}
+use Rattle.gateway.specs.Running.{CarriesOn, Stands}
+use Rattle.gateway.proofs.Runs.{behind-front, behind-through, breaks-last, carries-none, carries-then, ended, still, within-through}
 use Rattle.gateway.proofs.running.take_all.Goals as goal
 
 pub loop-event-init : goal.loop-event-init
@@ -19,7 +19,7 @@ loop-event-init g c =
       stands = search rules;
       carries = λ before. carries-none g.D.Disk.honest g.D.Disk.moment g.D.Disk.left g.D.Disk.failed now now before (before ++ out)
           (λ start events s. subst (λ (l : List (ℕ × Answer)). Stands g.D.Disk.honest g.D.Disk.moment g.D.Disk.left g.D.Disk.failed start now events l) (sym (ap (λ (l : List (ℕ × Answer)). before ++ l) c.requires.empty ∙ append-nil before)) s);
-      through = λ before. within-through g.D.Disk.honest g.D.Disk.moment g.D.Disk.left g.D.Disk.failed now now [] before (λ start events s ready. still-within g.D.Disk.honest g.D.Disk.moment g.D.Disk.left g.D.Disk.seen g.D.Disk.failed g.met.D.Disk.reads g.met.D.Disk.earlier start now events before s now refl ready);
+      through = λ before. within-through g.D.Disk.honest g.D.Disk.moment g.D.Disk.left g.D.Disk.failed now now [] before (still _ _ _ _ g.met.D.Disk.earlier now now refl before);
     }
 
 pub loop-event-preserved : goal.loop-event-preserved
@@ -36,11 +36,8 @@ loop-event-preserved g c =
       split = i.split ∙ ap (λ (es : List Event). one ++ es) c.in-Some.ensures.steps.0 ∙ sym (append_assoc one more c.next.new.self.rest.items);
       room = omega (arith, i.room, e.room, e.capacity, ap length c.in-Some.ensures.steps.0);
       stands = e.stands;
-      carries = λ before. carries-then g.D.Disk.honest g.D.Disk.moment g.D.Disk.left g.D.Disk.failed now c.loop-event.gateway c.take.new.gateway one more before (before ++ out) (before ++ c.take.new.answers.items)
-          (i.carries before) (e.ok before);
-      through = λ before. through-then g.D.Disk.honest g.D.Disk.moment g.D.Disk.left g.D.Disk.failed g.met.D.Disk.earlier now c.loop-event.gateway c.take.new.gateway one more before (before ++ out)
-          (i.through before) (i.carries before) (omega (arith, length-append before out))
-          (within-through g.D.Disk.honest g.D.Disk.moment g.D.Disk.left g.D.Disk.failed c.loop-event.gateway c.take.new.gateway more (before ++ out) (e.any_moment before));
+      carries = λ before. carries-then _ _ _ _ _ _ _ one more _ _ _ (i.carries before) (e.ok before);
+      through = behind-through g.D.Disk.honest g.D.Disk.moment g.D.Disk.left g.D.Disk.failed g.met.D.Disk.earlier now c.loop-event.gateway c.take.new.gateway (one ++ more) one more out refl i.carries i.through e.any_moment;
     }
 
 -- an event is refused
@@ -53,39 +50,25 @@ returns-in_err-take-clause-breaks g c =
     (c.in-Some.event ∷ []) c.next.new.self.rest.items before (before ++ c.loop-event.answers.items) (before ++ c.take.new.answers.items) _
     (i.split ∙ ap (λ (es : List Event). c.loop-event.yielded ++ es) c.in-Some.ensures.steps.0) (i.carries before) (c.in_err-take.ensures.err before))
 
-pub returns-in_err-take-clause-err : goal.returns-in_err-take-clause-err
-returns-in_err-take-clause-err g c =
-    let p = err_from_is_err_and c.from_residual.result c.from_residual.ensures.1 in
-    let breaks = returns-in_err-take-clause-breaks g c in
-    rw (p.1, p.2) (breaks-within g.D.Disk.honest g.D.Disk.moment g.D.Disk.left g.D.Disk.failed c.args.gateway.now c.take.new.gateway c.args.events.items c.take.new.answers.items _ c.requires.begun ((rw (p.1, p.2) at breaks) []))
-
 pub returns-in_err-take-clause-through : goal.returns-in_err-take-clause-through
 returns-in_err-take-clause-through g c =
     let i = c.loop-event.invariant in
-    let out = c.loop-event.answers.items in
-    let rest = c.loop-event.event-iterator.rest.items in
-    λ before. subst (λ (es : List Event). SafeThrough g.D.Disk.honest g.D.Disk.moment g.D.Disk.left g.D.Disk.failed c.args.gateway.now c.take.new.gateway es before) (sym {A = List Event} i.split)
-    (through-then g.D.Disk.honest g.D.Disk.moment g.D.Disk.left g.D.Disk.failed g.met.D.Disk.earlier c.args.gateway.now c.loop-event.gateway c.take.new.gateway c.loop-event.yielded rest before (before ++ out)
-    (i.through before) (i.carries before) (omega (arith, length-append before out))
-    (within-through g.D.Disk.honest g.D.Disk.moment g.D.Disk.left g.D.Disk.failed c.loop-event.gateway c.take.new.gateway rest (before ++ out) (c.take.ensures.any_moment before)))
+    behind-through g.D.Disk.honest g.D.Disk.moment g.D.Disk.left g.D.Disk.failed g.met.D.Disk.earlier c.args.gateway.now c.loop-event.gateway c.take.new.gateway
+    c.args.events.items c.loop-event.yielded c.loop-event.event-iterator.rest.items c.loop-event.answers.items i.split i.carries i.through c.take.ensures.any_moment
 
 pub returns-in_err-take-clause-through_front : goal.returns-in_err-take-clause-through_front
 returns-in_err-take-clause-through_front g c =
     let p = err_from_is_err_and c.from_residual.result c.from_residual.ensures.1 in
     let i = c.loop-event.invariant in
-    let now = c.args.gateway.now in
-    let out = c.loop-event.answers.items in
-    rw (p.1, p.2) (
-      record {
-        front = c.loop-event.yielded;
-        back = c.in-Some.event ∷ c.next.new.self.rest.items;
-        split = i.split ∙ ap (λ (es : List Event). c.loop-event.yielded ++ es) c.in-Some.ensures.steps.0;
-        stops = breaks-none g.D.Disk.honest g.D.Disk.moment g.D.Disk.left g.D.Disk.failed c.loop-event.gateway c.take.new.gateway (c.in-Some.event ∷ []) out c.take.new.answers.items _
-            (c.in_err-take.ensures.err []) c.in_err-take.ensures.not_taken.1 now c.loop-event.yielded (i.carries [] now [] c.requires.begun);
-      },
-      λ before. through-last g.D.Disk.honest g.D.Disk.moment g.D.Disk.left g.D.Disk.failed g.met.D.Disk.earlier now c.loop-event.gateway c.take.new.gateway c.loop-event.yielded before (before ++ out)
-          (i.through before) (i.carries before) (omega (arith, length-append before out)) (c.take.ensures.any_moment before),
-    )
+    rw (p.1, p.2) (behind-front g.D.Disk.honest g.D.Disk.moment g.D.Disk.left g.D.Disk.failed g.met.D.Disk.earlier c.args.gateway.now c.loop-event.gateway c.take.new.gateway
+    c.args.events.items c.loop-event.yielded c.loop-event.event-iterator.rest.items c.loop-event.answers.items i.split i.carries i.through c.take.ensures.any_moment
+    (c.in-Some.event ∷ []) c.take.new.answers.items _ c.requires.begun (c.in_err-take.ensures.err []) c.in_err-take.ensures.not_taken.1)
+
+pub returns-in_err-take-clause-err : goal.returns-in_err-take-clause-err
+returns-in_err-take-clause-err g c =
+    let p = err_from_is_err_and c.from_residual.result c.from_residual.ensures.1 in
+    let front = returns-in_err-take-clause-through_front g c in
+    rw (p.1, p.2) (rw (p.1, p.2) at front).0
 
 -- all are taken
 
@@ -108,8 +91,7 @@ returns-clause-ok g c =
     (returns-clause-carries g c)
 
 pub returns-clause-no_failure : goal.returns-clause-no_failure
-returns-clause-no_failure g c =
-    on_ok_weaker c.hand_out.result (λ carries. (carries [] c.args.gateway.now [] c.requires.begun).no_failure) (returns-clause-carries g c)
+returns-clause-no_failure g c = on_ok_weaker c.hand_out.result (λ carries. (carries [] c.args.gateway.now [] c.requires.begun).no_failure) (returns-clause-carries g c)
 
 pub returns-clause-breaks : goal.returns-clause-breaks
 returns-clause-breaks g c =
@@ -120,36 +102,19 @@ returns-clause-breaks g c =
     i.split (i.carries before) (breaks before))
     c.hand_out.ensures.err
 
-pub returns-clause-err : goal.returns-clause-err
-returns-clause-err g c =
-    IfErr-weaker c.hand_out.result _ _ (λ why breaks.
-    breaks-within g.D.Disk.honest g.D.Disk.moment g.D.Disk.left g.D.Disk.failed c.args.gateway.now c.hand_out.new.gateway c.args.events.items c.hand_out.new.answers.items why c.requires.begun (breaks []))
-    (returns-clause-breaks g c)
-
 pub returns-clause-through : goal.returns-clause-through
 returns-clause-through g c =
     let i = c.loop-event.invariant in
-    let out = c.loop-event.answers.items in
-    let rest = c.loop-event.event-iterator.rest.items in
-    λ before. subst (λ (es : List Event). SafeThrough g.D.Disk.honest g.D.Disk.moment g.D.Disk.left g.D.Disk.failed c.args.gateway.now c.hand_out.new.gateway es before) (sym {A = List Event} i.split)
-    (through-then g.D.Disk.honest g.D.Disk.moment g.D.Disk.left g.D.Disk.failed g.met.D.Disk.earlier c.args.gateway.now c.loop-event.gateway c.hand_out.new.gateway c.loop-event.yielded rest before (before ++ out)
-    (i.through before) (i.carries before) (omega (arith, length-append before out))
-    (within-through g.D.Disk.honest g.D.Disk.moment g.D.Disk.left g.D.Disk.failed c.loop-event.gateway c.hand_out.new.gateway rest (before ++ out) (c.hand_out.ensures.any_moment before)))
+    behind-through g.D.Disk.honest g.D.Disk.moment g.D.Disk.left g.D.Disk.failed g.met.D.Disk.earlier c.args.gateway.now c.loop-event.gateway c.hand_out.new.gateway
+    c.args.events.items c.loop-event.yielded c.loop-event.event-iterator.rest.items c.loop-event.answers.items i.split i.carries i.through c.hand_out.ensures.any_moment
 
 pub returns-clause-through_front : goal.returns-clause-through_front
 returns-clause-through_front g c =
     let i = c.loop-event.invariant in
-    let now = c.args.gateway.now in
-    let out = c.loop-event.answers.items in
-    IfErr-weaker c.hand_out.result _ _ (λ why breaks. (
-      record {
-        front = c.loop-event.yielded;
-        back = c.loop-event.event-iterator.rest.items;
-        split = i.split;
-        stops = breaks-none g.D.Disk.honest g.D.Disk.moment g.D.Disk.left g.D.Disk.failed c.loop-event.gateway c.hand_out.new.gateway [] out c.hand_out.new.answers.items why
-            (breaks []) c.hand_out.ensures.last now c.loop-event.yielded (i.carries [] now [] c.requires.begun);
-      },
-      λ before. through-last g.D.Disk.honest g.D.Disk.moment g.D.Disk.left g.D.Disk.failed g.met.D.Disk.earlier now c.loop-event.gateway c.hand_out.new.gateway c.loop-event.yielded before (before ++ out)
-          (i.through before) (i.carries before) (omega (arith, length-append before out)) (c.hand_out.ensures.any_moment before),
-    ))
+    IfErr-weaker c.hand_out.result _ _ (λ why breaks. behind-front g.D.Disk.honest g.D.Disk.moment g.D.Disk.left g.D.Disk.failed g.met.D.Disk.earlier c.args.gateway.now c.loop-event.gateway c.hand_out.new.gateway
+    c.args.events.items c.loop-event.yielded c.loop-event.event-iterator.rest.items c.loop-event.answers.items i.split i.carries i.through c.hand_out.ensures.any_moment
+    [] c.hand_out.new.answers.items why c.requires.begun (breaks []) c.hand_out.ensures.last)
     c.hand_out.ensures.err
+
+pub returns-clause-err : goal.returns-clause-err
+returns-clause-err g c = IfErr-weaker c.hand_out.result _ _ (λ why front. front.0) (returns-clause-through_front g c)

@@ -1,6 +1,5 @@
-use Rattle.std.proofs.Common.{◌≡◌, ◌∙◌, [], map, refl, sym, subst, ap}
+use Rattle.std.proofs.Common.{◌≡◌, ◌∙◌, [], refl, sym, subst, ap}
 use Rattle.packet.specs.Config.{Config}
-use Rattle.sessions.specs.Stilled.{stilled}
 use Rattle.disk_model.specs.Disk.{LeavesOnly}
 use Rattle.disk_model.proofs.Moments.{idle}
 use Rattle.durable.specs.Entering.{Durable}
@@ -31,22 +30,17 @@ returns-in_default-clause-configured g c = rw (← c.self.view_is) (λ stands ho
 pub compact-requires-clause-durable : goal.compact-requires-clause-durable
 compact-requires-clause-durable g c = λ honest.
     let none : c.self.inside.pending.held ≡ [] = ap (λ (k : Kept _). k.told.held) c.self.view_is ∙ c.requires in
-    let still : c.as_slice.result.now ≡ map stilled c.self.inside.core.state.sessions = c.as_slice.ensures.value ∙ c.in-Ok.ensures in
     let files = g.D.Disk.seen c.self.inside.store.disk in
-    recovers_so files c.self.inside.core.state c.text.result.now c.as_slice.result.now c.text.ensures still
+    recovers_so files c.self.inside.core.state c.text.result.now c.as_slice.result.now c.text.ensures (c.as_slice.ensures.value ∙ c.in-Ok.ensures)
     (nothing_waits c.self.inside.core.config files c.self.inside.pending.entries c.self.inside.core.state
     (c.self.invariant.3 (sym c.if-has_fallen.ensures.value) honest) (c.self.invariant.1 none))
 
 pub returns-in-Ok-compact-clause-any_moment : goal.returns-in-Ok-compact-clause-any_moment
-returns-in-Ok-compact-clause-any_moment g c =
-    let still : c.as_slice.result.now ≡ map stilled c.self.inside.core.state.sessions = c.as_slice.ensures.value ∙ c.in-Ok.ensures in
-    rw (← c.self.view_is) (λ stands honest.
+returns-in-Ok-compact-clause-any_moment g c = rw (← c.self.view_is) (λ stands honest.
     subst (λ (d : Durable). LeavesOnly g.D.Disk.moment g.D.Disk.left c.self.inside.store.disk c.compact.new.self.disk (λ files. Recovers files d))
-    (lasting_is c.self.inside.core.state c.text.result.now c.as_slice.result.now c.text.ensures still) (c.compact.ensures.any_moment honest))
+    (lasting_is c.self.inside.core.state c.text.result.now c.as_slice.result.now c.text.ensures (c.as_slice.ensures.value ∙ c.in-Ok.ensures)) (c.compact.ensures.any_moment honest))
 
 pub returns-clause-any_moment : goal.returns-clause-any_moment
-returns-clause-any_moment g c =
-    let still : c.as_slice.result.now ≡ map stilled c.self.inside.core.state.sessions = c.as_slice.ensures.value ∙ c.in-Ok.ensures in
-    rw (← c.self.view_is) (λ stands honest.
+returns-clause-any_moment g c = rw (← c.self.view_is) (λ stands honest.
     subst (λ (d : Durable). LeavesOnly g.D.Disk.moment g.D.Disk.left c.self.inside.store.disk c.compact.new.self.disk (λ files. Recovers files d))
-    (lasting_is c.self.inside.core.state c.text.result.now c.as_slice.result.now c.text.ensures still) (c.compact.ensures.any_moment honest))
+    (lasting_is c.self.inside.core.state c.text.result.now c.as_slice.result.now c.text.ensures (c.as_slice.ensures.value ∙ c.in-Ok.ensures)) (c.compact.ensures.any_moment honest))

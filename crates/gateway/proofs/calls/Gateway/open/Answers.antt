@@ -8,8 +8,7 @@ use Rattle.gateway.proofs.Resting.{begun}
 use Rattle.gateway.proofs.calls.Gateway.open.Goals as goal
 
 pub resume_core-requires : goal.resume_core-requires
-resume_core-requires g c =
-    subst (λ (ss : List Session). IsDurable c.args.bounds (durable c.in-Ok.field-0.text.items ss)) (sym c.as_slice.ensures.value) c.in-Ok.ensures.sound
+resume_core-requires g c = subst (λ (ss : List Session). IsDurable c.args.bounds (durable c.in-Ok.field-0.text.items ss)) (sym c.as_slice.ensures.value) c.in-Ok.ensures.sound
 
 pub invariant_of-result : goal.invariant_of-result
 invariant_of-result g c =
@@ -33,10 +32,8 @@ returns-in-Ok-resume_core-clause-resumed g c =
 
 pub returns-in-Ok-resume_core-clause-ok : goal.returns-in-Ok-resume_core-clause-ok
 returns-in-Ok-resume_core-clause-ok g c = λ honest.
-    let text = c.in-Ok.field-0.text.items in
-    let resumed = subst (λ (ss : List Session). IsResumed c.args.bounds (durable text ss) c.args.moment c.in-Ok-resume_core.core.state) c.as_slice.ensures.value c.in-Ok-resume_core.ensures.state in
     let ok = c.in-Ok.ensures.ok honest in
-    (durable text c.in-Ok.field-0.sessions.items, ok.0, resumed, ok.1.leaves)
+    (durable c.in-Ok.field-0.text.items c.in-Ok.field-0.sessions.items, ok.0, (returns-in-Ok-resume_core-clause-resumed g c).2, ok.1.leaves)
 
 pub returns-in-Ok-clause-unwritten : goal.returns-in-Ok-clause-unwritten
 returns-in-Ok-clause-unwritten g c = λ honest other.
