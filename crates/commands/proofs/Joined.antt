@@ -1,5 +1,5 @@
 -- Two results, of which the first error counts.
-use Rattle.std.proofs.Common.{◌≡◌, Result, Ok, Err, IfErr, OnOk, subst, sym}
+use Rattle.std.proofs.Common.{◌≡◌, ◌⊎◌, inl, inr, Result, Ok, Err, IfErr, OnOk, subst, sym}
 use Rattle.std.specs.Result.{result_and}
 
 module _ {T U E : Type 0} (r : Result T E) (s whole : Result U E) (is : whole ≡ result_and r s) where
@@ -15,3 +15,11 @@ module _ {T U E : Type 0} (r : Result T E) (s whole : Result U E) (is : whole �
     joined (Ok x) (Ok y) one = one
     joined (Ok x) (Err e) one = tt
     joined (Err e) second one = tt
+
+  -- the second one's error counts only if the first is well
+  pub error_of_one : (P : E → Type 0) (Q : Type 0) → IfErr r P → OnOk r Q → IfErr whole (λ e. Q ⊎ P e)
+  error_of_one P Q one well = subst (λ (w : Result U E). IfErr w (λ e. Q ⊎ P e)) (sym is) (joined r s one well) where
+    joined : (first : Result T E) (second : Result U E) → IfErr first P → OnOk first Q → IfErr (result_and first second) (λ e. Q ⊎ P e)
+    joined (Ok x) (Ok y) one well = tt
+    joined (Ok x) (Err e) one well = inl well
+    joined (Err e) second one well = inr one

@@ -1,6 +1,7 @@
 -- Visits in the life of a gateway.
-use Rattle.std.proofs.Common.{◌≡◌, ◌≤◌, Result, false, ℕ, zero, suc, List, [], ◌∷◌, ◌++◌, refl, sym, subst, ap, ◌∙◌, append_assoc}
+use Rattle.std.proofs.Common.{◌≡◌, ◌≤◌, inl, inr, Result, false, ℕ, zero, suc, List, [], ◌∷◌, ◌++◌, refl, sym, subst, ap, ◌∙◌, append_assoc}
 use Rattle.std.proofs.lemmas.List.{append-nil}
+use Rattle.std.specs.Bool.{⊤}
 use Rattle.packet.specs.Config.{Config}
 use Rattle.disk_model.specs.Disk.{Files}
 use Rattle.machine.specs.declared.event.Answer.{Answer}
@@ -13,8 +14,9 @@ use Rattle.socket_edge.specs.Running.{events_in}
 use Rattle.socket_edge.specs.Turns.{Turn, given, taken}
 use Rattle.socket_edge.specs.declared.fault.EdgeFault.{EdgeFault}
 use Rattle.socket_edge.proofs.Lives.{runs-are, stops-are}
-use Rattle.commands.specs.Lives.{TookInVisits, VisitIsLife, VisitsAreLives}
-use Rattle.commands.specs.Visits.{Idles, Visit, Visits}
+use Rattle.refusals.specs.declared.refusal.Refusal.{Refusal}
+use Rattle.commands.specs.Lives.{EndIsLife, TookInVisits, VisitIsLife, VisitsAreLives}
+use Rattle.commands.specs.Visits.{Idles, ServiceEnds, Visit, Visits}
 
 none-before : (front back : List Event) → [] ≡ front ++ back → front ≡ []
 none-before [] back e = refl
@@ -83,6 +85,13 @@ module _ {C D : Type 0} (honest : D → Type 0) (moment : D → ℕ) (by_crash :
         subst (λ (l : List (ℕ × Answer)). RestsInLife honest moment by_crash seen config entry at begun (events ++ (first.0 ++ front)) l new) (append_assoc answered first.1 told) there,
       )
 
+  end-is : (events : List Event) (answered : List (ℕ × Answer)) (r : Refusal) (a b : C) (old new : Kept D) → RestsInLife honest moment by_crash seen config entry at begun events answered old
+      → (e : ServiceEnds honest moment by_crash failed came went ended left (λ a b. ⊤) r a b old new)
+      → EndIsLife honest moment by_crash seen failed came went ended left config entry at begun events answered r a b old new e
+  end-is events answered r a b old new rested (inl none) = between old new events answered rested none.idles
+  end-is events answered r a b old new rested (inr (inl none)) = between old new events answered rested none.idles
+  end-is events answered r a b old new rested (inr (inr last)) = each old new events answered last.end a b rested last.visit
+
 module _ {C D : Type 0} (honest : D → Type 0) (moment : D → ℕ) (by_crash : D → ℕ → Files → Type 0) (seen : D → Files) (failed : D → ℕ)
     (earlier : (disk : D) (s t : ℕ) (files : Files) → s ≤ t → by_crash disk t files → by_crash disk s files)
     (came : C → C → Type 0) (went : C → C → List Turn → Type 0) (ended : C → Type 0) (left : C → C → Type 0) where
@@ -91,4 +100,12 @@ module _ {C D : Type 0} (honest : D → Type 0) (moment : D → ℕ) (by_crash :
     between = λ config entry at begun old new events answered r i. between honest moment by_crash seen failed earlier came went ended left config entry at begun old new events answered r i;
     each = λ config entry at begun old new events answered end a b r v. each honest moment by_crash seen failed earlier came went ended left config entry at begun old new events answered end a b r v;
     rests = λ config entry at begun old new events answered n a b r vs. rests honest moment by_crash seen failed earlier came went ended left config entry at begun n old new events answered a b r vs;
+    ends = λ config entry at begun old new events answered most r a b rested some.
+        let first = rests honest moment by_crash seen failed earlier came went ended left config entry at begun some.count old some.now events answered a some.last rested some.visits in (
+          first.0,
+          first.1,
+          first.2,
+          first.3,
+          end-is honest moment by_crash seen failed earlier came went ended left config entry at begun (events ++ first.0) (answered ++ first.1) r some.last b some.now new first.3 some.ends,
+        );
   }

@@ -1,6 +1,7 @@
 -- What an opening tells behind earlier lives, and clients that are served one after the other in the life of a gateway,
 -- as `gateway/specs/Lives` and `Living` define it.
 use Rattle.std.specs.Prelude.{◌≡◌, ◌≢◌, ⊤, ℕ, zero, suc, List, [], ◌∷◌, ◌++◌, Result}
+use Rattle.std.proofs.Common.{inr}
 use Rattle.packet.specs.Config.{Config}
 use Rattle.disk_model.specs.Disk.{Files}
 use Rattle.durable.specs.Entering.{Durable}
@@ -16,8 +17,9 @@ use Rattle.socket_edge.specs.Lives.{EdgeRuns, EdgeStops}
 use Rattle.socket_edge.specs.Running.{events_in}
 use Rattle.socket_edge.specs.Turns.{Turn, given, taken}
 use Rattle.socket_edge.specs.declared.fault.EdgeFault.{EdgeFault}
+use Rattle.refusals.specs.declared.refusal.Refusal.{Refusal}
 use Rattle.commands.specs.Causes.{IsLastCurrent}
-use Rattle.commands.specs.Visits.{Idles, Visit, Visits}
+use Rattle.commands.specs.Visits.{Idles, ServiceEnds, SomeVisits, Visit, Visits}
 use Rattle.commands.specs.declared.opening.AnewFault.{AnewFault}
 use Rattle.commands.specs.declared.opening.AnewFault.TheVariants.{Making, Opening}
 
@@ -67,6 +69,18 @@ module _ {C D : Type 0} (honest : D → Type 0) (moment : D → ℕ) (by_crash :
       × TookInVisits n a visits.0 old visits.1 visits.3 earlier
       × (events_in (given visits.4.meets.turns) ≡ front ++ back)
 
+  -- The gateway's life had come to `events` and `answered`, and then the service ended, whatever is seen if none comes.
+  -- The last visit is part of the life; if there was none, a stop meanwhile is the end of it.
+  abbrev pub EndIsLife : (config : Config) (entry : D) (opened_at : ℕ) (begun : Kept D)
+      (events : List Event) (answered : List (ℕ × Answer)) (r : Refusal) (a b : C) (old new : Kept D)
+      → ServiceEnds honest moment by_crash failed came went ended left (λ a b. ⊤) r a b old new
+      → Type 0
+  EndIsLife config entry opened_at begun events answered r a b old new (inr (inr last)) =
+      VisitIsLife config entry opened_at begun events answered last.end a b old new last.visit
+  EndIsLife config entry opened_at begun events answered r a b old new ends =
+      IsLived honest moment by_crash seen config entry opened_at begun events answered old.disk
+      new.disk
+
   -- Of a gateway that rests in its life:
   pub record VisitsAreLives : Type 0 where
     -- a stop between two clients is the end of the life
@@ -91,6 +105,18 @@ module _ {C D : Type 0} (honest : D → Type 0) (moment : D → ℕ) (by_crash :
         → (more : List Event) × (out : List (ℕ × Answer)) × TookInVisits n a b old new visits more
         × RestsInLife honest moment by_crash seen config entry opened_at begun (events ++ more)
         (answered ++ out) new
+    -- A service that ends is part of the life too: so the gateway rested behind the visits before its end, and that is.
+    pub ends : (config : Config) (entry : D) (opened_at : ℕ) (begun old new : Kept D)
+        (events : List Event) (answered : List (ℕ × Answer)) (most : ℕ) (r : Refusal) (a b : C)
+        → RestsInLife honest moment by_crash seen config entry opened_at begun events answered old
+        → (some : SomeVisits honest moment by_crash failed came went ended left (λ a b. ⊤) most r a b
+        old new)
+        → (more : List Event) × (out : List (ℕ × Answer))
+        × TookInVisits some.count a some.last old some.now some.visits more
+        × RestsInLife honest moment by_crash seen config entry opened_at begun (events ++ more)
+        (answered ++ out) some.now
+        × EndIsLife config entry opened_at begun (events ++ more) (answered ++ out) r some.last b
+        some.now new some.ends
 
 module _ {D : Type 0} (honest : D → Type 0) (moment : D → ℕ) (by_crash : D → ℕ → Files → Type 0)
     (seen : D → Files) (failed : D → ℕ) where

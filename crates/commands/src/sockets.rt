@@ -1,8 +1,8 @@
 //! A Unix socket: it is bound to a path, and requests are sent through it and back.
-ghost use Rattle.std.specs.Prelude.{◌≡◌, [], false, IsErr, IfErr, OnOk};
+ghost use Rattle.std.specs.Prelude.{◌≡◌, ◌⊎◌, [], false, IsErr, IfErr, OnOk};
 ghost use Rattle.refusals.specs.Words.{IsOfPath};
 ghost use Rattle.commands.specs.Faults.{IsOfLooping};
-ghost use Rattle.commands.specs.Visits.{UnseenVisits};
+ghost use Rattle.commands.specs.Visits.{SomeUnseenVisits, UnseenVisits};
 
 use crate::clients::serve_clients;
 use disk_model::Disk;
@@ -167,6 +167,11 @@ pub fn loop_back<R: Net, W: Write, E: Write, D: Disk + Drop>(
     gateway: &mut Gateway<D>,
 ) -> Result<(), Stop>
     ensures served { OnOk result (UnseenVisits D.honest D.moment D.left D.failed 1 gateway.old
+        gateway.new) }
+    // Nobody was served; or one client was; or the service has ended, of which this is told.
+    ensures ended { IfErr result (λ stop. (gateway.new ≡ gateway.old)
+        ⊎ UnseenVisits D.honest D.moment D.left D.failed 1 gateway.old gateway.new
+        ⊎ SomeUnseenVisits D.honest D.moment D.left D.failed 1 stop.refusal gateway.old
         gateway.new) }
     ensures stands { OnOk result (gateway.old.fallen ≡ false → gateway.new.fallen ≡ false) }
     ensures causes { IfErr result (λ stop. IsOfLooping stop.refusal) }

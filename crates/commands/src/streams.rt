@@ -6,7 +6,7 @@ ghost use Rattle.gateway.specs.declared.fault.GatewayFault.TheVariants as gatewa
 ghost use Rattle.refusals.specs.declared.refusal.Refusal.TheVariants.{Output, Reopen};
 ghost use Rattle.refusals.specs.Words.{first_line};
 ghost use Rattle.commands.specs.Faults.{IsOfGateway, IsOfStream, EndIsToldAs, edge_refusal};
-ghost use Rattle.socket_edge.specs.Running.{AtEachTurn, Fares, RunEnded, events_in};
+ghost use Rattle.socket_edge.specs.Running.{AnswersFirst, AtEachTurn, Fares, RunEnded, TurnsEnd, events_in};
 ghost use Rattle.socket_edge.specs.Turns.{Turn, given, taken};
 ghost use Rattle.socket_edge.specs.declared.fault.EdgeFault.{EdgeFault as Fault};
 ghost use Rattle.commands.specs.Visits.{EndHasCause};
@@ -36,7 +36,14 @@ pub(crate) fn answer_all<R: Read, W: Write, D: Disk + Drop>(
     ensures each_turn { (turns : List Turn)
         × Consumes (R.remaining reader.old) (R.remaining reader.new) (given turns)
         × Appends (W.contents writer.old) (W.contents writer.new) (taken turns)
-        × AtEachTurn D.honest D.moment D.left gateway.old gateway.new turns }
+        × RunEnded result gateway.old.told gateway.new.told (given turns) (taken turns)
+        (IsAtEnd (R.remaining reader.new))
+        × Fares D.honest D.moment D.left gateway.old gateway.new (events_in (given turns))
+        (taken turns)
+        × AnswersFirst gateway.old.told turns
+        × AtEachTurn D.honest D.moment D.left gateway.old gateway.new turns
+        × TurnsEnd result turns
+        × AreBytes (given turns) }
     ensures cause { gateway.old.fallen ≡ false
         → EndHasCause D.honest D.moment D.left D.failed result gateway.old gateway.new }
     ensures reopen { gateway.old.fallen ≡ true
@@ -70,11 +77,21 @@ pub fn replay<R: Read, W: Write, D: Disk + Drop>(
         × (gateway.old.fallen ≡ false
         → EndHasCause D.honest D.moment D.left D.failed ended gateway.old gateway.new) }
 
-    // By which turns with the two streams it went, and what a crash leaves that comes between two of them.
-    ensures each_turn { (turns : List Turn)
+    // By which turns with the two streams it went: all of `ran` holds of them, and all that `socket_edge::run_with` says
+    // of its own.
+    ensures each_turn { (ended : Result ℕ Fault) × EndIsToldAs ended result × (turns : List Turn)
         × Consumes (R.remaining reader.old) (R.remaining reader.new) (given turns)
         × Appends (W.contents writer.old) (W.contents writer.new) (taken turns)
-        × AtEachTurn D.honest D.moment D.left gateway.old gateway.new turns }
+        × RunEnded ended gateway.old.told gateway.new.told (given turns) (taken turns)
+        (IsAtEnd (R.remaining reader.new))
+        × Fares D.honest D.moment D.left gateway.old gateway.new (events_in (given turns))
+        (taken turns)
+        × AnswersFirst gateway.old.told turns
+        × AtEachTurn D.honest D.moment D.left gateway.old gateway.new turns
+        × TurnsEnd ended turns
+        × AreBytes (given turns)
+        × (gateway.old.fallen ≡ false
+        → EndHasCause D.honest D.moment D.left D.failed ended gateway.old gateway.new) }
     ensures reopen { gateway.old.fallen ≡ true → (result ≡ Err Reopen)
         × (gateway.new ≡ gateway.old) × (reader.new ≡ reader.old) × (writer.new ≡ writer.old) }
     ensures causes { IfErr result IsOfStream }

@@ -245,11 +245,18 @@ pub fn run<R: Read, W: Write, D: Disk + Drop>(
         × Fares D.honest D.moment D.left gateway.old gateway.new (events_in given) written
         × AreBytes given }
 
-    // By which turns with the two streams it went, and what a crash leaves that comes between two of them.
+    // By which turns with the two streams it went: all of `ran` holds of them, and all that `run_with` says of its own.
     ensures each_turn { (turns : List Turn)
         × Consumes (R.remaining reader.old) (R.remaining reader.new) (given turns)
         × Appends (W.contents writer.old) (W.contents writer.new) (taken turns)
-        × AtEachTurn D.honest D.moment D.left gateway.old gateway.new turns }
+        × RunEnded result gateway.old.told gateway.new.told (given turns) (taken turns)
+        (IsAtEnd (R.remaining reader.new))
+        × Fares D.honest D.moment D.left gateway.old gateway.new (events_in (given turns))
+        (taken turns)
+        × AnswersFirst gateway.old.told turns
+        × AtEachTurn D.honest D.moment D.left gateway.old gateway.new turns
+        × TurnsEnd result turns
+        × AreBytes (given turns) }
     ensures why { gateway.old.fallen ≡ false
         → IfErr result (λ e. Explains D.honest D.moment D.left D.failed e gateway.old gateway.new) }
     ensures stands { OnOk result ((gateway.old.fallen ≡ false) × (gateway.new.fallen ≡ false)) }

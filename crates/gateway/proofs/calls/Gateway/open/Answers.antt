@@ -31,6 +31,7 @@ returns-in-Ok-resume_core-clause-resumed g c =
     (durable text c.in-Ok.field-0.sessions.items, c.in-Ok.ensures.sound, resumed)
 
 pub returns-in-Ok-resume_core-clause-ok : goal.returns-in-Ok-resume_core-clause-ok
+unfolding returns-in-Ok-resume_core-clause-resumed
 returns-in-Ok-resume_core-clause-ok g c = λ honest.
     let ok = c.in-Ok.ensures.ok honest in
     (durable c.in-Ok.field-0.text.items c.in-Ok.field-0.sessions.items, ok.0, (returns-in-Ok-resume_core-clause-resumed g c).2, ok.1.leaves)
