@@ -10,6 +10,7 @@ use Rattle.gateway.specs.Kept.{Kept}
 use Rattle.gateway.specs.Told.{Told}
 use Rattle.to_devices.specs.declared.counts.Counts.{Counts}
 use Rattle.gateway.proofs.Taking.{took_none}
+use Rattle.machine.specs.Laws.{EventsAreJudgedOnce}
 use Rattle.machine.specs.Machine.{later}
 use Rattle.machine.specs.declared.event.Answer.{Answer}
 use Rattle.socket_edge.specs.declared.fault.EdgeFault.{EdgeFault}
@@ -25,6 +26,7 @@ use Rattle.carrying.specs.Turns.{Gave, TakesAll, Turn, events_of, headers_of}
 use Rattle.carrying.proofs.Joined.{AsksFor-nil, answered_long, asked-then, events-then, fares-behind, lan-then, last-then, wan-then}
 use Rattle.carrying.proofs.Taken.{each-first, each-then, takes-as}
 use Rattle.carrying.proofs.Prompt.{hands-first, hands-then}
+use Rattle.carrying.proofs.Settling.{firsts-are, settles-in}
 use Rattle.carrying.proofs.Stopping.{Trail, stops-then, trail-first, trail-then}
 
 -- What is said of the packets that one more turn took of a device may be said of all since the first turn.
@@ -129,10 +131,10 @@ module _ {D : Type 0} (honest : D → Type 0) (moment : D → ℕ) (left : D →
         }
 
     -- and one that failed
-    pub ran-fails : (last at done : ℕ) (fault : EdgeFault) (turn : Turn) (a a' a'' : Asks) (l l' l'' w w' w'' k k' k'' v v' v'' : Frames) (A B : Type 0) (c c' c'' : Counts) → Then P from_lan done l l' turn.lan A → Then Q from_wan done w w' turn.wan B → Going start now last at done a a' l l' w w' k k' v v' c c' → AsksFor a' a'' (asked_of turn ∷ []) → Gave turn l' l'' w' w'' → TakesAll at turn A B
+    pub ran-fails : EventsAreJudgedOnce → (last at done : ℕ) (fault : EdgeFault) (turn : Turn) (a a' a'' : Asks) (l l' l'' w w' w'' k k' k'' v v' v'' : Frames) (A B : Type 0) (c c' c'' : Counts) → Then P from_lan done l l' turn.lan A → Then Q from_wan done w w' turn.wan B → Going start now last at done a a' l l' w w' k k' v v' c c' → AsksFor a' a'' (asked_of turn ∷ []) → Gave turn l' l'' w' w'' → TakesAll at turn A B
         → Fails honest moment left now new (events_of at turn) k' k'' v' v''
         → c'' ≡ c' → (run : Ran honest moment left start new (Err fault) last a a'' l l'' w w'' k k'' v v'') × (run.settled ≡ now) × EachTakesAll last P Q (run.turns ++ run.failed) × CountsTurns last run.turns start.told run.settled.told c c'' × EachHandsOn last R run.turns run.answered
-    ran-fails last at done fault turn a a' a'' l l' l'' w w' w'' k k' k'' v v' v'' A B c c' c'' more-lan more-wan i asked gave takes f same =
+    ran-fails once last at done fault turn a a' a'' l l' l'' w w' w'' k k' k'' v v' v'' A B c c' c'' more-lan more-wan i asked gave takes f same =
         let fares : Fares honest moment left now new (events_of (last_of last i.turns) turn) f.sent =
         subst (λ (m : ℕ). Fares honest moment left now new (events_of m turn) f.sent) i.moment_is f.fares in
         let to_lan : Hands k' k'' [] = subst (λ (x : Frames). Hands k' x []) (sym f.to_lan) (Hands-nil k') in
@@ -159,6 +161,8 @@ module _ {D : Type 0} (honest : D → Type 0) (moment : D → ℕ) (left : D →
                 (fares-behind honest moment left earlier start now new stood i.stands none (all_events last i.turns) (events_of (last_of last i.turns) turn) (all_headers last i.turns) k k' v v' f.sent i.trail.carries fares);
             stops = stops.0;
             settles = stops.1;
+            firsts = firsts-are honest moment left earlier once start now new last i.turns (turn ∷ []) k k' k'' v v' v'' none stops.0 stops.1 i.trail.carries (omega arith);
+            each_settles = settles-in honest moment left earlier once start now new last i.turns (turn ∷ []) k k' k'' v v' v'' none stops.0 stops.1 i.trail.carries;
           },
           refl,
           takes-next last at done i.turns turn l l' w w' A B i.moment_is i.count i.takes i.gave_lan i.gave_wan more-lan more-wan takes,
@@ -167,9 +171,9 @@ module _ {D : Type 0} (honest : D → Type 0) (moment : D → ℕ) (left : D →
         )
 
   -- they ended well
-  pub ran-ends : (start now : Kept D) (last at done : ℕ) (a a' : Asks) (l l' w w' k k' v v' : Frames) (c c' : Counts) → Going start now last at done a a' l l' w w' k k' v v' c c' → IsOver a' ⊎ (done ≡ 2 ^ 64 - 1)
+  pub ran-ends : (earlier : (disk : D) (s t : ℕ) (files : Files) → s ≤ t → left disk t files → left disk s files) → EventsAreJudgedOnce → (start now : Kept D) → start.told.held ≡ [] → (last at done : ℕ) (a a' : Asks) (l l' w w' k k' v v' : Frames) (c c' : Counts) → Going start now last at done a a' l l' w w' k k' v v' c c' → IsOver a' ⊎ (done ≡ 2 ^ 64 - 1)
       → (run : Ran honest moment left start now (Ok tt) last a a' l l' w w' k k' v v') × EachTakesAll last P Q (run.turns ++ run.failed) × CountsTurns last run.turns start.told run.settled.told c c' × EachHandsOn last R run.turns run.answered
-  ran-ends start now last at done a a' l l' w w' k k' v v' c c' i over =
+  ran-ends earlier once start now none last at done a a' l l' w w' k k' v v' c c' i over =
       let stops : (stops : AtEachTurn honest moment left start now last (i.turns ++ []) k k' v v') × (stops.by i.turns ≡ now) =
       subst (λ (ts : List Turn). (stops : AtEachTurn honest moment left start now last ts k k' v v') × (stops.by i.turns ≡ now)) (sym (append-nil i.turns)) (i.trail.stops, i.trail.stops.last) in (
         record {
@@ -192,6 +196,8 @@ module _ {D : Type 0} (honest : D → Type 0) (moment : D → ℕ) (left : D →
           fares = rw (append-nil i.turns, append-nil (frames i.trail.carries.answered)) i.trail.carries.fares;
           stops = stops.0;
           settles = stops.1;
+          firsts = firsts-are honest moment left earlier once start now now last i.turns [] k k' k' v v' v' none stops.0 stops.1 i.trail.carries (omega arith);
+          each_settles = settles-in honest moment left earlier once start now now last i.turns [] k k' k' v v' v' none stops.0 stops.1 i.trail.carries;
         },
         rw (append-nil i.turns) i.takes,
         i.counted,

@@ -5,6 +5,7 @@ mod Settled
 mod Joined
 mod Taken
 mod Stopping
+mod Settling
 mod Prompt
 mod Unfaulty
 mod Short

@@ -1,17 +1,19 @@
 -- A run of turns in the life of a gateway.
-use Rattle.std.proofs.Common.{ℕ, ◌≤◌, List, ◌++◌, ◌∙◌, ap}
+use Rattle.std.proofs.Common.{◌≡◌, ℕ, ◌≤◌, List, [], ◌∷◌, ◌++◌, length, sym, subst, ◌∙◌, ap}
 use Rattle.disk_model.specs.Disk.{Files}
 use Rattle.disk_model.proofs.Moments.{only_now}
 use Rattle.durable.specs.Recovery.{IsConfigured}
 use Rattle.machine.specs.Laws.{EventsAreJudgedOnce}
 use Rattle.machine.specs.declared.event.Answer.{Answer}
+use Rattle.gateway.specs.Kept.{IsSafe}
 use Rattle.gateway.proofs.Living.{stopped-in}
 use Rattle.socket_edge.specs.Progress.{replies}
 use Rattle.carrying.specs.Carried.{Carries}
-use Rattle.carrying.specs.Lives.{CarryRunsAreLives, CarryStopsAreLives}
+use Rattle.carrying.specs.Lives.{CarryRunsAreLives, CarryStopsAreLives, SettledStopsAreLives}
 use Rattle.frames.specs.Answers.{frames}
 use Rattle.socket_edge.proofs.Lives.{runs-are}
 use Rattle.carrying.specs.Runs.{all_events, all_headers}
+use Rattle.carrying.proofs.Joined.{answered_long}
 use Rattle.carrying.proofs.Stopping.{at-exit}
 
 module _ {D : Type 0} (honest : D → Type 0) (moment : D → ℕ) (left : D → ℕ → Files → Type 0) (seen : D → Files)
@@ -46,6 +48,16 @@ module _ {D : Type 0} (honest : D → Type 0) (moment : D → ℕ) (left : D →
             (λ files since. (k.since.each files since).2)
             (λ files since. (k.configured.each files since).2);
       }
+
+  pub settled-are : SettledStopsAreLives honest moment left seen
+  unfolding replies
+  settled-are config entry at begun old now later events given answered last before turn lan lan' wan wan' r by =
+      let es = all_events last (before ++ turn ∷ []) in
+      let many : length answered ≡ length es = answered_long old.told by.settled.told es answered by.took r.rests.none by.none in
+      stopped-in honest moment left seen config entry at begun events given old r es by.took.judged answered by.settled.told.held by.settled.disk later.disk by.took.are_judged
+      (by.took.order ∙ ap (λ (l : List (ℕ × Answer)). l ++ replies old.told by.took.judged) r.rests.none)
+      (λ files since. subst (λ (n : ℕ). IsSafe old.told.config old.told.state es n files) (sym many) ((by.since r.rests).each files since).2)
+      (λ files since. ((by.configured r.rests).each files since).2)
 
   pub carried-are : CarryRunsAreLives honest moment left seen
   carried-are config entry at begun old new events given ended last asks asks' lan lan' wan wan' handed handed' far far' r run =

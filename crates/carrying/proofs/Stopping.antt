@@ -51,7 +51,7 @@ hands-more : (a b c : Frames) (xs more : List (List ℕ)) → HandsFirst a b xs 
 hands-more a b c xs more p q = (p.0, p.1, (p.2.0 ++ more, Hands-then p.0 b c p.2.0 more p.2.1 q))
 
 -- what was given out is what the model answers
-answered_are : (old new : Told) (es : List Event) (out : List (ℕ × Answer)) (t : TookAll old new es out) → old.held ≡ [] → new.held ≡ [] → out ≡ replies old t.judged
+pub answered_are : (old new : Told) (es : List Event) (out : List (ℕ × Answer)) (t : TookAll old new es out) → old.held ≡ [] → new.held ≡ [] → out ≡ replies old t.judged
 unfolding replies
 answered_are old new es out t none none' =
     sym (append-nil out) ∙ ap (λ (l : List (ℕ × Answer)). out ++ l) (sym none') ∙ t.order ∙ ap (λ (l : List (ℕ × Answer)). l ++ replies old t.judged) none
@@ -78,6 +78,18 @@ module _ {D : Type 0} (honest : D → Type 0) (moment : D → ℕ) (left : D →
         let many : n ≡ length es = answered_long a.told b.told es k.answered t ready.none k.none in
         subst (λ (xs : List Event). LeavesNow moment left b.disk (IsSafe a.told.config a.told.state xs n)) (sym same)
         (o.at_exit n (omega (arith, many, ap length same)) (omega (arith, ap (λ (xs : List (ℕ × Answer)). length (frames xs)) whole)))
+
+  -- what was carried when the run came by
+  pub came : (a now later : Kept D) (last : ℕ) (before : List Turn) (turn : Turn) (l l' w w' : Frames) → (by : ComesBy honest moment left a now later last before turn l l' w w')
+      → Carries honest moment left a now (all_events last before) (all_headers last before) l by.to_lan.0 w by.to_wan.0
+  came a now later last before turn l l' w w' by = record {
+    answered = by.answered;
+    took = by.took;
+    none = by.none;
+    to_lan = by.to_lan.1;
+    to_wan = by.to_wan.1;
+    fares = by.until;
+  }
 
   module _ (a b c : Kept D) (last : ℕ) (turns : List Turn) (turn : Turn) (l l' l'' w w' w'' : Frames) (xs ys : List (List ℕ)) (t : Trail a b last turns l l' w w') (stands : b.fallen ≡ false)
       (sent : List ℕ) (f : Fares honest moment left b c (events_of (last_of last turns) turn) sent) (to_lan : Hands l' l'' xs) (to_wan : Hands w' w'' ys) where

@@ -13,7 +13,7 @@ use Rattle.socket_edge.specs.Lives.{EdgeRuns}
 use Rattle.socket_edge.specs.Progress.{Reached}
 use Rattle.socket_edge.specs.declared.fault.EdgeFault.{EdgeFault}
 use Rattle.carrying.specs.Asking.{Asks}
-use Rattle.carrying.specs.Runs.{ComesBy, Ran, all_events}
+use Rattle.carrying.specs.Runs.{ComesBy, Ran, Settles, all_events}
 use Rattle.carrying.specs.Turns.{Turn}
 
 module _ {D : Type 0} (honest : D → Type 0) (moment : D → ℕ) (left : D → ℕ → Files → Type 0)
@@ -53,6 +53,20 @@ module _ {D : Type 0} (honest : D → Type 0) (moment : D → ℕ) (left : D →
       → (by : ComesBy honest moment left old now later last before turn lan lan' wan wan')
       → CarryStops config entry opened_at begun old now later events given
       (all_events last before) (all_events last (before ++ turn ∷ [])) by.answered
+
+  -- A stop in the midst of a run, over a gateway that rests in its life, with what the run promises of a turn that didn't
+  -- fail (`Settles`): since the turn settled, and before the next one began or the run ended. All events of this turn
+  -- count as taken, and each answer as given out by which the devices were handed a packet, in this turn too. Of a stop
+  -- before the turn settled `CarryStopsAreLives` speaks (`comes`).
+  abbrev pub SettledStopsAreLives : Type 0
+  SettledStopsAreLives = (config : Config) (entry : D) (opened_at : ℕ) (begun old now later : Kept D)
+      (events : List Event) (given answered : List (ℕ × Answer)) (last : ℕ) (before : List Turn)
+      (turn : Turn) (lan lan' wan wan' : Frames)
+      → RestsInLife honest moment left seen config entry opened_at begun events given old
+      → (by : Settles honest moment left old now later last before turn answered lan lan' wan wan')
+      → IsLived honest moment left seen config entry opened_at begun
+      (events ++ all_events last (before ++ turn ∷ [])) (given ++ answered)
+      by.settled.disk later.disk
 
   -- A whole run, over a gateway that rests in its life, is as one of the edge over the events of its turns: a stop in
   -- it or after it is the end of the life, and unless the gateway has fallen it rests again. Of the answers given out

@@ -135,6 +135,26 @@ module _ {D : Type 0} (honest : D → Type 0) (moment : D → ℕ) (left : D →
     pub since : IsAtRest honest old → Keeps (all_events last (before ++ turn ∷ [])) answered
 
 module _ {D : Type 0} (honest : D → Type 0) (moment : D → ℕ) (left : D → ℕ → Files → Type 0)
+    (old now later : Kept D) where
+  -- In a turn that didn't fail the run came by `settled`, and then by `later`. At `settled` it had taken the events of
+  -- this turn too, and held nothing. Of an honest disk, if nothing was held at the entry, no crash from then on loses an
+  -- event of this turn, or of one before.
+  pub record Settles (last : ℕ) (before : List Turn) (turn : Turn) (answered : List (ℕ × Answer))
+      (lan lan' wan wan' : Frames) : Type 0 where
+    pub settled : Kept D
+    -- up to it nothing is lost of the turns before
+    pub comes : ComesBy honest moment left old now settled last before turn lan lan' wan wan'
+    pub first : comes.answered ≡ take (length (all_events last before)) answered
+    pub took : TookAll old.told settled.told (all_events last (before ++ turn ∷ [])) answered
+    pub none : settled.told.held ≡ []
+    -- it stands for just what the model has after all of them
+    pub since : IsAtRest honest old → LeavesOnly moment left settled.disk later.disk
+        (IsSafe old.told.config old.told.state (all_events last (before ++ turn ∷ []))
+        (length (all_events last (before ++ turn ∷ []))))
+    pub configured : IsAtRest honest old
+        → LeavesOnly moment left settled.disk later.disk (IsConfigured old.told.config)
+
+module _ {D : Type 0} (honest : D → Type 0) (moment : D → ℕ) (left : D → ℕ → Files → Type 0)
     (old new : Kept D) where
   -- By which gateways a run came from turn to turn. Only the last of these turns may have failed.
   pub record AtEachTurn (latest : ℕ) (turns : List Turn) (lan lan' wan wan' : Frames) : Type 0 where
@@ -153,7 +173,7 @@ module _ {D : Type 0} (honest : D → Type 0) (moment : D → ℕ) (left : D →
   -- them, one behind the other. They were handed what the answers to the events of the turns that didn't fail say, and
   -- nothing else. The answers are numbered on, and their frames are the first of what the files fare by: whatever a
   -- crash leaves at the exit holds each event whose packet was handed on. A crash in the midst leaves what holds the
-  -- events of each turn before, and of no later one.
+  -- events of each turn before, and of no later one; once a turn has settled, what holds those of that turn too.
   pub record Ran (ended : Result (Unit {0}) EdgeFault) (last : ℕ) (asks asks' : Asks)
       (lan lan' wan wan' : Frames) (lan_handed lan_handed' wan_handed wan_handed' : Frames) : Type 0 where
     pub turns : List Turn
@@ -178,3 +198,13 @@ module _ {D : Type 0} (honest : D → Type 0) (moment : D → ℕ) (left : D →
         (frames answered ++ more)
     pub stops : AtEachTurn last (turns ++ failed) lan_handed lan_handed' wan_handed wan_handed'
     pub settles : stops.by turns ≡ settled
+    -- what the run had answered when a turn began is the first of what it answered
+    pub firsts : (before : List Turn) (turn : Turn) (after : List Turn)
+        → (e : turns ++ failed ≡ before ++ turn ∷ after)
+        → (stops.each before turn after e).answered ≡ take (length (all_events last before)) answered
+    -- each turn settles that didn't fail; what was answered by then is the first too
+    pub each_settles : (before : List Turn) (turn : Turn) (after : List Turn)
+        → turns ≡ before ++ turn ∷ after
+        → Settles honest moment left old (stops.by before) (stops.by (before ++ turn ∷ [])) last before
+        turn (take (length (all_events last (before ++ turn ∷ []))) answered)
+        lan_handed lan_handed' wan_handed wan_handed'

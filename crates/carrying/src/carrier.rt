@@ -20,6 +20,7 @@ use disk_model::Disk;
 use from_devices::FromDevices;
 use gateway::running::stands;
 use gateway::{Gateway, GatewayFault};
+use machine::laws::events_are_judged_once;
 use packet::Iface;
 use socket_edge::EdgeFault;
 use std::alloc::{AllocError, Global};
@@ -258,7 +259,7 @@ impl Carrier {
 
     /// The turns that the pace asks for, one after the other, each when it is to be, until none is asked for. The packets
     /// of a turn are handed on before the next one is waited for. If this is stopped in its midst, no event of the turns
-    /// before is lost.
+    /// before is lost, and once the gateway has answered the turn under way, none of this turn.
     ///
     /// # Errors
     ///
@@ -295,6 +296,7 @@ impl Carrier {
         ensures no_failure { OnOk result (D.failed gateway.new.disk ≡ D.failed gateway.old.disk) }
     {
         stands(gateway);
+        events_are_judged_once();
         for _turn in 0..u64::MAX {
             let Some(beat) = pace.next(devices, &self.counts, self.drops.noted()) else {
                 return Ok(());

@@ -40,7 +40,7 @@ returns-in_default g c =
     let e = c.loop-turn.devices in
     let over = c.in_default.ensures.over in
     let run =
-    ran-ends g.D.Disk.honest g.D.Disk.moment g.D.Disk.left (GaveAll g.L.Device.coming g.L.Device.waited g.L.Device.has_none d.lan) (GaveAll g.W.Device.coming g.W.Device.waited g.W.Device.has_none d.wan) (Stood g.L.Device.coming g.L.Device.handed g.L.Device.waited g.W.Device.coming g.W.Device.handed g.W.Device.waited d) c.args.gateway.now c.loop-turn.gateway c.args.self.now.told c.loop-turn.self.told c.loop-turn._turn
+    ran-ends g.D.Disk.honest g.D.Disk.moment g.D.Disk.left (GaveAll g.L.Device.coming g.L.Device.waited g.L.Device.has_none d.lan) (GaveAll g.W.Device.coming g.W.Device.waited g.W.Device.has_none d.wan) (Stood g.L.Device.coming g.L.Device.handed g.L.Device.waited g.W.Device.coming g.W.Device.handed g.W.Device.waited d) g.met.D.Disk.earlier c.events_are_judged_once.ensures c.args.gateway.now c.loop-turn.gateway c.requires.none c.args.self.now.told c.loop-turn.self.told c.loop-turn._turn
     (g.P.Pace.asks c.args.pace.now) (g.P.Pace.asks c.loop-turn.pace)
     (g.L.Device.coming d.lan) (g.L.Device.coming e.lan) (g.W.Device.coming d.wan) (g.W.Device.coming e.wan)
     (g.L.Device.handed d.lan) (g.L.Device.handed e.lan) (g.W.Device.handed d.wan) (g.W.Device.handed e.wan) c.args.self.now.counts c.loop-turn.self.counts c.loop-turn.invariant.0 (inl over.0) in
@@ -60,7 +60,7 @@ returns-in-Err g c =
     let fails : Fails g.D.Disk.honest g.D.Disk.moment g.D.Disk.left c.loop-turn.gateway c.turn_at.new.gateway (events_of c.loop-turn.self.told t.0)
     (g.L.Device.handed e.lan) (g.L.Device.handed f.lan) (g.W.Device.handed e.wan) (g.W.Device.handed f.wan) = rw (← n.to_lan, ← n.to_wan) t.4 in
     let run =
-    ran-fails g.D.Disk.honest g.D.Disk.moment g.D.Disk.left (GaveAll g.L.Device.coming g.L.Device.waited g.L.Device.has_none d.lan) (GaveAll g.W.Device.coming g.W.Device.waited g.W.Device.has_none d.wan) (Stood g.L.Device.coming g.L.Device.handed g.L.Device.waited g.W.Device.coming g.W.Device.handed g.W.Device.waited d) g.met.D.Disk.earlier c.args.gateway.now c.loop-turn.gateway c.turn_at.new.gateway c.requires.stands c.requires.none c.args.self.now.told c.loop-turn.self.told c.loop-turn._turn c.in-Err.fault t.0
+    ran-fails g.D.Disk.honest g.D.Disk.moment g.D.Disk.left (GaveAll g.L.Device.coming g.L.Device.waited g.L.Device.has_none d.lan) (GaveAll g.W.Device.coming g.W.Device.waited g.W.Device.has_none d.wan) (Stood g.L.Device.coming g.L.Device.handed g.L.Device.waited g.W.Device.coming g.W.Device.handed g.W.Device.waited d) g.met.D.Disk.earlier c.args.gateway.now c.loop-turn.gateway c.turn_at.new.gateway c.requires.stands c.requires.none c.events_are_judged_once.ensures c.args.self.now.told c.loop-turn.self.told c.loop-turn._turn c.in-Err.fault t.0
     (g.P.Pace.asks c.args.pace.now) (g.P.Pace.asks c.loop-turn.pace) (g.P.Pace.asks c.next.new.self)
     (g.L.Device.coming d.lan) (g.L.Device.coming e.lan) (g.L.Device.coming f.lan) (g.W.Device.coming d.wan) (g.W.Device.coming e.wan) (g.W.Device.coming f.wan)
     (g.L.Device.handed d.lan) (g.L.Device.handed e.lan) (g.L.Device.handed f.lan) (g.W.Device.handed d.wan) (g.W.Device.handed e.wan) (g.W.Device.handed f.wan)
@@ -115,7 +115,7 @@ returns g c =
     let d = c.args.devices.now in
     let e = c.loop-turn.devices in
     let run =
-    ran-ends g.D.Disk.honest g.D.Disk.moment g.D.Disk.left (GaveAll g.L.Device.coming g.L.Device.waited g.L.Device.has_none d.lan) (GaveAll g.W.Device.coming g.W.Device.waited g.W.Device.has_none d.wan) (Stood g.L.Device.coming g.L.Device.handed g.L.Device.waited g.W.Device.coming g.W.Device.handed g.W.Device.waited d) c.args.gateway.now c.loop-turn.gateway c.args.self.now.told c.loop-turn.self.told c.loop-turn._turn
+    ran-ends g.D.Disk.honest g.D.Disk.moment g.D.Disk.left (GaveAll g.L.Device.coming g.L.Device.waited g.L.Device.has_none d.lan) (GaveAll g.W.Device.coming g.W.Device.waited g.W.Device.has_none d.wan) (Stood g.L.Device.coming g.L.Device.handed g.L.Device.waited g.W.Device.coming g.W.Device.handed g.W.Device.waited d) g.met.D.Disk.earlier c.events_are_judged_once.ensures c.args.gateway.now c.loop-turn.gateway c.requires.none c.args.self.now.told c.loop-turn.self.told c.loop-turn._turn
     (g.P.Pace.asks c.args.pace.now) (g.P.Pace.asks c.loop-turn.pace)
     (g.L.Device.coming d.lan) (g.L.Device.coming e.lan) (g.W.Device.coming d.wan) (g.W.Device.coming e.wan)
     (g.L.Device.handed d.lan) (g.L.Device.handed e.lan) (g.W.Device.handed d.wan) (g.W.Device.handed e.wan) c.args.self.now.counts c.loop-turn.self.counts c.loop-turn.invariant.0 (inr (omega (arith, c.loop-turn-test.false, c.loop-turn.auto._turn-end))) in
