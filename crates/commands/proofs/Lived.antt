@@ -1,7 +1,6 @@
 -- Visits in the life of a gateway.
 use Rattle.std.proofs.Common.{◌≡◌, ◌≤◌, inl, inr, Result, false, ℕ, zero, suc, List, [], ◌∷◌, ◌++◌, refl, sym, subst, ap, ◌∙◌, append_assoc}
 use Rattle.std.proofs.lemmas.List.{append-nil}
-use Rattle.std.specs.Bool.{⊤}
 use Rattle.packet.specs.Config.{Config}
 use Rattle.disk_model.specs.Disk.{Files}
 use Rattle.machine.specs.declared.event.Answer.{Answer}
@@ -85,18 +84,18 @@ module _ {C D : Type 0} (honest : D → Type 0) (moment : D → ℕ) (by_crash :
         subst (λ (l : List (ℕ × Answer)). RestsInLife honest moment by_crash seen config entry at begun (events ++ (first.0 ++ front)) l new) (append_assoc answered first.1 told) there,
       )
 
-  end-is : (events : List Event) (answered : List (ℕ × Answer)) (r : Refusal) (a b : C) (old new : Kept D) → RestsInLife honest moment by_crash seen config entry at begun events answered old
-      → (e : ServiceEnds honest moment by_crash failed came went ended left (λ a b. ⊤) r a b old new)
-      → EndIsLife honest moment by_crash seen failed came went ended left config entry at begun events answered r a b old new e
-  end-is events answered r a b old new rested (inl none) = between old new events answered rested none.idles
-  end-is events answered r a b old new rested (inr (inl none)) = between old new events answered rested none.idles
-  end-is events answered r a b old new rested (inr (inr last)) = each old new events answered last.end a b rested last.visit
+  end-is : (missed : C → C → Type 0) (events : List Event) (answered : List (ℕ × Answer)) (r : Refusal) (a b : C) (old new : Kept D) → RestsInLife honest moment by_crash seen config entry at begun events answered old
+      → (e : ServiceEnds honest moment by_crash failed came went ended left missed r a b old new)
+      → EndIsLife honest moment by_crash seen failed came went ended left missed config entry at begun events answered r a b old new e
+  end-is missed events answered r a b old new rested (inl none) = between old new events answered rested none.idles
+  end-is missed events answered r a b old new rested (inr (inl none)) = between old new events answered rested none.idles
+  end-is missed events answered r a b old new rested (inr (inr last)) = each old new events answered last.end a b rested last.visit
 
 module _ {C D : Type 0} (honest : D → Type 0) (moment : D → ℕ) (by_crash : D → ℕ → Files → Type 0) (seen : D → Files) (failed : D → ℕ)
     (earlier : (disk : D) (s t : ℕ) (files : Files) → s ≤ t → by_crash disk t files → by_crash disk s files)
     (came : C → C → Type 0) (went : C → C → List Turn → Type 0) (ended : C → Type 0) (left : C → C → Type 0) where
-  pub visits-are : VisitsAreLives honest moment by_crash seen failed came went ended left
-  visits-are = record {
+  pub visits-are : (missed : C → C → Type 0) → VisitsAreLives honest moment by_crash seen failed came went ended left missed
+  visits-are missed = record {
     between = λ config entry at begun old new events answered r i. between honest moment by_crash seen failed earlier came went ended left config entry at begun old new events answered r i;
     each = λ config entry at begun old new events answered end a b r v. each honest moment by_crash seen failed earlier came went ended left config entry at begun old new events answered end a b r v;
     rests = λ config entry at begun old new events answered n a b r vs. rests honest moment by_crash seen failed earlier came went ended left config entry at begun n old new events answered a b r vs;
@@ -106,6 +105,6 @@ module _ {C D : Type 0} (honest : D → Type 0) (moment : D → ℕ) (by_crash :
           first.1,
           first.2,
           first.3,
-          end-is honest moment by_crash seen failed earlier came went ended left config entry at begun (events ++ first.0) (answered ++ first.1) r some.last b some.now new first.3 some.ends,
+          end-is honest moment by_crash seen failed earlier came went ended left config entry at begun missed (events ++ first.0) (answered ++ first.1) r some.last b some.now new first.3 some.ends,
         );
   }

@@ -69,20 +69,22 @@ module _ {C D : Type 0} (honest : D → Type 0) (moment : D → ℕ) (by_crash :
       × TookInVisits n a visits.0 old visits.1 visits.3 earlier
       × (events_in (given visits.4.meets.turns) ≡ front ++ back)
 
-  -- The gateway's life had come to `events` and `answered`, and then the service ended, whatever is seen if none comes.
+  -- The gateway's life had come to `events` and `answered`, and then the service ended, whatever is seen (`missed`) if
+  -- none comes.
   -- The last visit is part of the life; if there was none, a stop meanwhile is the end of it.
-  abbrev pub EndIsLife : (config : Config) (entry : D) (opened_at : ℕ) (begun : Kept D)
-      (events : List Event) (answered : List (ℕ × Answer)) (r : Refusal) (a b : C) (old new : Kept D)
-      → ServiceEnds honest moment by_crash failed came went ended left (λ a b. ⊤) r a b old new
+  abbrev pub EndIsLife : (missed : C → C → Type 0) (config : Config) (entry : D) (opened_at : ℕ)
+      (begun : Kept D) (events : List Event) (answered : List (ℕ × Answer)) (r : Refusal) (a b : C)
+      (old new : Kept D)
+      → ServiceEnds honest moment by_crash failed came went ended left missed r a b old new
       → Type 0
-  EndIsLife config entry opened_at begun events answered r a b old new (inr (inr last)) =
+  EndIsLife missed config entry opened_at begun events answered r a b old new (inr (inr last)) =
       VisitIsLife config entry opened_at begun events answered last.end a b old new last.visit
-  EndIsLife config entry opened_at begun events answered r a b old new ends =
+  EndIsLife missed config entry opened_at begun events answered r a b old new ends =
       IsLived honest moment by_crash seen config entry opened_at begun events answered old.disk
       new.disk
 
   -- Of a gateway that rests in its life:
-  pub record VisitsAreLives : Type 0 where
+  pub record VisitsAreLives (missed : C → C → Type 0) : Type 0 where
     -- a stop between two clients is the end of the life
     pub between : (config : Config) (entry : D) (opened_at : ℕ) (begun old new : Kept D)
         (events : List Event) (answered : List (ℕ × Answer))
@@ -109,13 +111,13 @@ module _ {C D : Type 0} (honest : D → Type 0) (moment : D → ℕ) (by_crash :
     pub ends : (config : Config) (entry : D) (opened_at : ℕ) (begun old new : Kept D)
         (events : List Event) (answered : List (ℕ × Answer)) (most : ℕ) (r : Refusal) (a b : C)
         → RestsInLife honest moment by_crash seen config entry opened_at begun events answered old
-        → (some : SomeVisits honest moment by_crash failed came went ended left (λ a b. ⊤) most r a b
+        → (some : SomeVisits honest moment by_crash failed came went ended left missed most r a b
         old new)
         → (more : List Event) × (out : List (ℕ × Answer))
         × TookInVisits some.count a some.last old some.now some.visits more
         × RestsInLife honest moment by_crash seen config entry opened_at begun (events ++ more)
         (answered ++ out) some.now
-        × EndIsLife config entry opened_at begun (events ++ more) (answered ++ out) r some.last b
+        × EndIsLife missed config entry opened_at begun (events ++ more) (answered ++ out) r some.last b
         some.now new some.ends
 
 module _ {D : Type 0} (honest : D → Type 0) (moment : D → ℕ) (by_crash : D → ℕ → Files → Type 0)
@@ -123,4 +125,4 @@ module _ {D : Type 0} (honest : D → Type 0) (moment : D → ℕ) (by_crash : D
   -- the same of clients of whom nothing is seen (`UnseenVisits`)
   abbrev pub UnseenVisitsAreLives : Type 0
   UnseenVisitsAreLives = VisitsAreLives {C = Unit {0}} honest moment by_crash seen failed (λ a b. ⊤)
-      (λ a b turns. ⊤) (λ a. ⊤) (λ a b. ⊤)
+      (λ a b turns. ⊤) (λ a. ⊤) (λ a b. ⊤) (λ a b. ⊤)

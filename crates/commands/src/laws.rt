@@ -71,6 +71,6 @@ pub fn open_over_in_lives<D: Disk + Drop>(
 /// `gateway::laws::lives_are_the_models` holds of a whole service, of the stops in it, and of the gateways that are
 /// opened afterwards. So it does of clients of whom nothing is seen, as `natgw serve` has them (`unseen`).
 pub fn visits_are_lives<C: Clients, D: Disk>(_: &C, _: &D)
-    ensures visits { VisitsAreLives D.honest D.moment D.left D.seen D.failed C.came C.went C.ended C.left }
+    ensures visits { VisitsAreLives D.honest D.moment D.left D.seen D.failed C.came C.went C.ended C.left C.missed }
     ensures unseen { UnseenVisitsAreLives D.honest D.moment D.left D.seen D.failed }
 {}
