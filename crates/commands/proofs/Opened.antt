@@ -1,5 +1,5 @@
 -- An opening that makes its file anew, in lives.
-use Rattle.std.proofs.Common.{◌≡◌, ◌↔◌, Result, Ok, Err, false, ℕ, List, [], refl, sym, ap, ◌∙◌, subst}
+use Rattle.std.proofs.Common.{◌≡◌, ◌↔◌, Result, Ok, Err, false, ℕ, List, [], refl, subst}
 use Rattle.std.specs.Prelude.{IfErr, IfOk, IsTrue, MatchResult}
 use Rattle.packet.specs.Config.{Config, is_config}
 use Rattle.disk_model.specs.Disk.{Files, Leaves, LeavesNow, LeavesOnly}
@@ -9,7 +9,6 @@ use Rattle.machine.specs.Noted.{IsResumed}
 use Rattle.gateway.specs.Kept.{Kept, IsAtRest}
 use Rattle.gateway.specs.Lives.{AreLives, BothMayBecome, Course, IsLife, Life, LivesAreTheModels, NextFinds, Refused, Stopped}
 use Rattle.gateway.specs.Living.{RestsInLife}
-use Rattle.gateway.specs.declared.fault.GatewayFault.{GatewayFault}
 use Rattle.gateway.proofs.Becoming.{active-back}
 use Rattle.gateway.proofs.Taking.{took_none}
 use Rattle.snapshot.specs.declared.fault.OpenFault.{OpenFault}
