@@ -141,13 +141,14 @@ module _ {D : Type 0} (honest : D → Type 0) (moment : D → ℕ) (left : D →
   -- event of this turn, or of one before.
   pub record Settles (last : ℕ) (before : List Turn) (turn : Turn) (answered : List (ℕ × Answer))
       (lan lan' wan wan' : Frames) : Type 0 where
+    -- it may be the later one
     pub settled : Kept D
     -- up to it nothing is lost of the turns before
     pub comes : ComesBy honest moment left old now settled last before turn lan lan' wan wan'
     pub first : comes.answered ≡ take (length (all_events last before)) answered
     pub took : TookAll old.told settled.told (all_events last (before ++ turn ∷ [])) answered
     pub none : settled.told.held ≡ []
-    -- it stands for just what the model has after all of them
+    -- what a crash leaves stands for what the model has after all of them
     pub since : IsAtRest honest old → LeavesOnly moment left settled.disk later.disk
         (IsSafe old.told.config old.told.state (all_events last (before ++ turn ∷ []))
         (length (all_events last (before ++ turn ∷ []))))

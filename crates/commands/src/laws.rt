@@ -67,9 +67,10 @@ pub fn open_over_in_lives<D: Disk + Drop>(
 /// Of a gateway that rests in its life and serves clients one after the other (`serve_each`), a stop at any moment is
 /// the end of a life: between two clients, while one is served, or after it. Each answer counts as given out that the
 /// client had taken behind the last turn that began before the stop. After so many visits it rests in the same life, in
-/// which it has taken of each client the first of the events that it gave, and the next visit may follow. So
-/// `gateway::laws::lives_are_the_models` holds of a whole service, of the stops in it, and of the gateways that are
-/// opened afterwards. So it does of clients of whom nothing is seen, as `natgw serve` has them (`unseen`).
+/// which it has taken of each client the first of the events that it gave, and the next visit may follow. A service that
+/// ends is part of that life too (`ends`). So `gateway::laws::lives_are_the_models` holds of a whole service, of the
+/// stops in it, and of the gateways that are opened afterwards. So it does of clients of whom nothing is seen, as
+/// `natgw serve` has them (`unseen`).
 pub fn visits_are_lives<C: Clients, D: Disk>(_: &C, _: &D)
     ensures visits { VisitsAreLives D.honest D.moment D.left D.seen D.failed C.came C.went C.ended C.left C.missed }
     ensures unseen { UnseenVisitsAreLives D.honest D.moment D.left D.seen D.failed }
