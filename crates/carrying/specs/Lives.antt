@@ -55,8 +55,8 @@ module _ {D : Type 0} (honest : D → Type 0) (moment : D → ℕ) (left : D →
       (all_events last before) (all_events last (before ++ turn ∷ [])) by.answered
 
   -- A stop in the midst of a run, over a gateway that rests in its life, with what the run promises of a turn that didn't
-  -- fail (`Settles`): since the turn settled, and before the next one began or the run ended. All events of this turn
-  -- count as taken, and each answer as given out by which the devices were handed a packet, in this turn too. Of a stop
+  -- fail (`Settles`): since the turn settled, and before the next one began or the run ended. All events up to this
+  -- turn count as taken, and all their answers as given out. Of a stop
   -- before the turn settled `CarryStopsAreLives` speaks (`comes`).
   abbrev pub SettledStopsAreLives : Type 0
   SettledStopsAreLives = (config : Config) (entry : D) (opened_at : ℕ) (begun old now later : Kept D)

@@ -137,8 +137,8 @@ module _ {D : Type 0} (honest : D → Type 0) (moment : D → ℕ) (left : D →
 module _ {D : Type 0} (honest : D → Type 0) (moment : D → ℕ) (left : D → ℕ → Files → Type 0)
     (old now later : Kept D) where
   -- In a turn that didn't fail the run came by `settled`, and then by `later`. At `settled` it had taken the events of
-  -- this turn too, and held nothing. Of an honest disk, if nothing was held at the entry, no crash from then on loses an
-  -- event of this turn, or of one before.
+  -- this turn too, and held nothing. Of an honest disk, if nothing was held at the entry, no crash between the two
+  -- loses an event of this turn, or of one before.
   pub record Settles (last : ℕ) (before : List Turn) (turn : Turn) (answered : List (ℕ × Answer))
       (lan lan' wan wan' : Frames) : Type 0 where
     -- it may be the later one

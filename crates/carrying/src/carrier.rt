@@ -259,7 +259,7 @@ impl Carrier {
 
     /// The turns that the pace asks for, one after the other, each when it is to be, until none is asked for. The packets
     /// of a turn are handed on before the next one is waited for. If this is stopped in its midst, no event of the turns
-    /// before is lost, and once the gateway has answered the turn under way, none of this turn.
+    /// before is lost, and once the turn under way has settled, none of this turn either.
     ///
     /// # Errors
     ///

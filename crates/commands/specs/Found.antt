@@ -32,7 +32,7 @@ module _ {F : Type 0} (honest : F → Type 0) (holds : F → List ℕ) (leaves :
         → honest found.0 → honest found.1
         → IsLeft honest holds leaves found.0 now.0 → IsLeft honest holds leaves found.1 now.1
         → LeaveFound first earlier found → LeaveFound first earlier now
-    -- If nothing is known of what was before, but both lack no byte since, first is what they read as: so a gateway of a
+    -- If no earlier life is known, but both files are whole and synced, `first` is what they read as. So a gateway of a
     -- former version may have been stopped within a call.
     pub read : (room : ℕ) (found : F × F) (disk : Filed F) (first : Durable)
         → IsWhole honest holds leaves room found.0 disk.files.a

@@ -69,9 +69,8 @@ module _ {C D : Type 0} (honest : D → Type 0) (moment : D → ℕ) (by_crash :
       × TookInVisits n a visits.0 old visits.1 visits.3 earlier
       × (events_in (given visits.4.meets.turns) ≡ front ++ back)
 
-  -- The gateway's life had come to `events` and `answered`, and then the service ended, whatever is seen (`missed`) if
-  -- none comes.
-  -- The last visit is part of the life; if there was none, a stop meanwhile is the end of it.
+  -- The gateway's life had come to `events` and `answered`, and then the service ended; `missed` is what is seen if no
+  -- client comes. If a last client was served, its visit is part of the life; else a stop since then is the life's end.
   abbrev pub EndIsLife : (missed : C → C → Type 0) (config : Config) (entry : D) (opened_at : ℕ)
       (begun : Kept D) (events : List Event) (answered : List (ℕ × Answer)) (r : Refusal) (a b : C)
       (old new : Kept D)
@@ -107,7 +106,8 @@ module _ {C D : Type 0} (honest : D → Type 0) (moment : D → ℕ) (by_crash :
         → (more : List Event) × (out : List (ℕ × Answer)) × TookInVisits n a b old new visits more
         × RestsInLife honest moment by_crash seen config entry opened_at begun (events ++ more)
         (answered ++ out) new
-    -- A service that ends is part of the life too: so the gateway rested behind the visits before its end, and that is.
+    -- A service that ends is part of the life too: the gateway rested behind the visits before its end, and
+    -- that is part of its life (`EndIsLife`).
     pub ends : (config : Config) (entry : D) (opened_at : ℕ) (begun old new : Kept D)
         (events : List Event) (answered : List (ℕ × Answer)) (most : ℕ) (r : Refusal) (a b : C)
         → RestsInLife honest moment by_crash seen config entry opened_at begun events answered old

@@ -21,9 +21,10 @@ use gateway::laws::lives_are_the_models;
 use packet::Bounds;
 use std::alloc::Global;
 
-/// Files that an opening has prepared, or has left that failed, are what the next gateway may find, if they were before
-/// it: what a crash leaves of a disk that was opened is as `open_over_in_lives` asks of it, behind earlier lives. Files of
-/// which no earlier life is known are found as they read.
+/// Files that an opening has prepared, or that a failed one has left, are such as the next gateway may find, if they were
+/// such before that opening: what a crash leaves of a disk that was opened is as `open_over_in_lives` asks of it, behind
+/// earlier lives. Files of which no earlier life is known are found as they read, if both are whole and synced, and stand
+/// for a state of this configuration.
 pub fn openings_find<F: DiskFile>(file: &F)
     ensures { (config : Config) → OpeningsFind F.honest F.holds F.leaves config F.lacks_space }
 {

@@ -168,7 +168,7 @@ pub fn loop_back<R: Net, W: Write, E: Write, D: Disk + Drop>(
 ) -> Result<(), Stop>
     ensures served { OnOk result (UnseenVisits D.honest D.moment D.left D.failed 1 gateway.old
         gateway.new) }
-    // Nobody was served; or one client was; or the service has ended, of which this is told.
+    // The gateway is as it was; or one client was served; or the service ended, and the refusal tells why.
     ensures ended { IfErr result (λ stop. (gateway.new ≡ gateway.old)
         ⊎ UnseenVisits D.honest D.moment D.left D.failed 1 gateway.old gateway.new
         ⊎ SomeUnseenVisits D.honest D.moment D.left D.failed 1 stop.refusal gateway.old

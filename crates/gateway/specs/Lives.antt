@@ -72,8 +72,8 @@ LifeLeads config opened_at (Opened work) old new = IsResumed config old opened_a
 abbrev pub again_at : ℕ → State → State
 again_at moment s = record s { sessions = map (at_moment moment) s.sessions; clock = moment }
 
--- A gateway that was opened at this moment began with the state that the model had after some first of an earlier one's
--- events, which hold each event whose answer that one gave out.
+-- A gateway that was opened at this moment began with `again_at` of the state that the model had after some first of an
+-- earlier one's events, which hold each event whose answer that one gave out.
 pub record GoesOnFrom {D : Type 0} (config : Config) (one : Work D) (opened_at : ℕ)
     (next : Work D) : Type 0 where
   pub count : ℕ

@@ -168,11 +168,11 @@ module _ {D : Type 0} (honest : D → Type 0) (moment : D → ℕ) (left : D →
         new.disk
 
   -- A gateway in its life may be stopped between two calls; and if it holds nothing, it rests. What its calls promise leads
-  -- on in its life, or is its end: what they say of an event that was taken (`Takes`; of `offer` its `took`, `now`, `filled`,
-  -- `stood`, `numbers_left` and `held_few`; and `config` and `sound` of `facts`), of answers that were synced (`Syncs`), and
-  -- of a run (`carries`). What the calls of `running` promise of a run that began where it rested leads on in its life
-  -- (`Stands`), or to its end (`Ends`); so does a stop within them (`SafeWithin`, `SafeThrough`), with all answers given out
-  -- that were before.
+  -- on in its life, or is its end: what they say of an event that was taken (`takes`: `took`, `now`, `filled`, `stood`,
+  -- `numbers_left`, `held_few`, `disk` and `fallen` of `offer`, or `ok` and `beside` of `take_packet` and `take_event`; and
+  -- `config` and `sound` of `facts`), of answers that were synced (`syncs`), and of a run (`carries`). What the calls of
+  -- `running` promise of a run that began where it rested leads on in its life (`Stands`), or to its end (`Ends`). A stop
+  -- within them is its end (`SafeWithin`, `SafeThrough`), with all answers given out that were before.
   pub record CallsAreLives : Type 0 where
     pub between : (now : Kept D) → EndsLife now now
     pub at_rest : (config : Config) (entry : D) (opened_at : ℕ) (begun now : Kept D)

@@ -6,7 +6,7 @@
 //! - `goes_on_after_a_stop`: the plainest case of it
 //! - `restarts_keep_the_state`: which state a gateway begins with then
 //! - `open_in_lives`, `run_in_lives`, `compact_in_lives`: these calls of `Gateway`, each with the clauses that say that it
-//!   makes such lives; `rests_in_lives`: from `open` and `run` on to the other calls
+//!   makes such lives; `rests_in_lives`: a gateway that rests, as behind these, is in its life
 //! - `calls_are_lives`: what `offer`, `take_packet`, `take_event`, `flush` and `settle` promise makes such lives; so do the
 //!   calls of `running`, which make these
 ghost use Rattle.std.specs.Prelude.{◌≡◌, ◌≢◌, ◌++◌, [], List, IfErr, IfOk, IsErr, MatchResult, OnErr, OnOk, true};
@@ -55,7 +55,7 @@ pub fn lives_are_the_models<D: Disk>(_: &D)
 
 /// The plainest case: a gateway is opened over files of which none is open and is stopped at any moment, and another
 /// one is opened. It begins again from what must survive of the model's state after some first events, which hold every
-/// event whose answer was given out, and goes on from the first one with that state.
+/// event whose answer was given out, and goes on from the first one with that state, but for the moments.
 pub fn goes_on_after_a_stop<D: Disk>(_: &D)
     ensures { (config : Config) → GoesOnAfterAStop D.honest D.moment D.left D.seen config }
 {
@@ -107,8 +107,8 @@ pub fn open_in_lives<D: Disk + Drop>(
     Gateway::open(alloc, disk, bounds, moment)
 }
 
-/// A gateway that rests in its life, as one that was opened or has taken a run of events does, is in its life, as the
-/// other calls ask. It does nothing but carry this fact.
+/// A gateway that rests in its life, as one that was opened or has ended a run well does, is in its life, as the other
+/// calls ask. It does nothing but carry this fact.
 pub fn rests_in_lives<D: Disk + Drop>(gateway: &Gateway<D>)
     ensures { RestingIsLiving D.honest D.moment D.left D.seen D.failed gateway.now }
 {
@@ -177,10 +177,10 @@ pub fn compact_in_lives<D: Disk + Drop>(gateway: &mut Gateway<D>) -> Result<(), 
 }
 
 /// Between two calls a stop is the end of a life. What the calls of a gateway promise leads on in its life, or to its end:
-/// `offer`, `take_packet` and `take_event` (`takes`), `flush` and `settle` (`syncs`). A held answer counts as given out once
-/// one of these two has ended well, and not before, also if it was told in place. So does what the calls of `running`
-/// promise (`CarriesOn`, `BreaksOff`), a stop within them (`SafeWithin`), and one within a run of events that begins while
-/// answers are held (`SafeThrough`).
+/// `offer`, `take_packet` and `take_event` (`takes`), `flush` and `settle` (`syncs`), and the calls of `running`
+/// (`CarriesOn`, `BreaksOff`). A stop within them is its end (`SafeWithin`), also within a run of events that begins while
+/// answers are held (`SafeThrough`). A held answer counts as given out once `flush` or `settle` has ended well, and not
+/// before, also if it was told in place.
 pub fn calls_are_lives<D: Disk>(_: &D)
     ensures { CallsAreLives D.honest D.moment D.left D.seen D.failed }
 {}

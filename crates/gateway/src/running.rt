@@ -12,8 +12,7 @@
 //! - `compact`: what is held is handed out, and the files are made short (`Gateway::compact`)
 //!
 //! `take`, `hand_out` and `compact` put answers behind a list. They speak of runs of which the answers in that list were
-//! the last that were handed out. So whoever makes a run of them begins it with an empty list, and keeps that up to its
-//! end.
+//! the last that were handed out. So a run begins with an empty list, and nothing else is put behind it.
 ghost use Rattle.std.specs.Prelude.{◌≡◌, ◌≢◌, ◌↔◌, ◌⊎◌, ◌+◌, ◌-◌, ◌^◌, ◌<◌, ◌≤◌, ◌++◌, ◌∷◌, [], ℕ, List, false, length};
 ghost use Rattle.std.specs.Prelude.{IfErr, IsTrue, OnErr, OnOk, true, vec_capacity, vec_len};
 ghost use Rattle.machine.specs.declared.event.Answer.{Answer};
