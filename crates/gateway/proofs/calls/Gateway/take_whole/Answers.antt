@@ -12,7 +12,7 @@ pub give-taken-requires-clause-short : goal.give-taken-requires-clause-short
 give-taken-requires-clause-short g c =
     let own = c.self.inside in
     let done = c.in-Ok.ensures.ok in
-    rw c.parts_of-fate.ensures.packet (short_leaves own.core.config own.core.state c.step_noted.new.self.state c.args.event done.0 c.in-Ok.answer done.1 done.2 c.facts-2.ensures)
+    rw c.parts_of-fate.ensures.packet (short_leaves own.core.config own.core.state c.step_noted.new.self.state c.args.event done.0 c.in-Ok.answer done.1 done.2 c.facts-2.ensures.bytes)
 
 pub returns-in-Ok-clause-bodiless : goal.returns-in-Ok-clause-bodiless
 returns-in-Ok-clause-bodiless g c =
