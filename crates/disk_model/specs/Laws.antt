@@ -22,8 +22,11 @@ module _ {D : Type 0} (honest : D → Type 0) (moment : D → ℕ) (left : D →
     pub with_moments : (disk : D) (s t : ℕ) (files : Files) → s ≤ t
         → left disk t files → left disk s files
     -- so what a crash leaves between two of several calls, it might have left since the first of them began
-    pub within : (m n : ℕ) (old mid new : D) (files : Files) → AreCalls m old mid
+    pub between : (m n : ℕ) (old mid new : D) (files : Files) → AreCalls m old mid
         → AreCalls n mid new → LeftNow moment left mid files → left new (moment old) files
+    -- and so of one within a call: at a moment since the first began, by the disk as that call ends
+    pub within : (m n : ℕ) (old mid new : D) (t : ℕ) (files : Files) → AreCalls m old mid
+        → AreCalls n mid new → moment old ≤ t → left mid t files → left new (moment old) files
 
   module _ (seen : D → Files) where
     -- after calls that only look

@@ -7,8 +7,8 @@
 //! - `restarts_keep_the_state`: which state a gateway begins with then
 //! - `open_in_lives`, `run_in_lives`, `compact_in_lives`: these calls of `Gateway`, each with the clauses that say that it
 //!   makes such lives; `rests_in_lives`: a gateway that rests, as behind these, is in its life
-//! - `calls_are_lives`: what `offer`, `take_packet`, `take_event`, `flush` and `settle` promise makes such lives; so do the
-//!   calls of `running`, which make these
+//! - `calls_are_lives`: what `offer`, `take_packet`, `take_event`, `flush` and `settle` promise makes such lives; so does
+//!   what the calls of `running` promise, which make these calls for their callers
 ghost use Rattle.std.specs.Prelude.{◌≡◌, ◌≢◌, ◌++◌, [], List, IfErr, IfOk, IsErr, MatchResult, OnErr, OnOk, true};
 ghost use Rattle.packet.specs.Config.{Config};
 ghost use Rattle.disk_model.specs.Disk.{LeavesNow};
@@ -115,10 +115,9 @@ pub fn rests_in_lives<D: Disk + Drop>(gateway: &Gateway<D>)
     gateway.has_fallen();
 }
 
-/// Takes events (`Gateway::run`), for a gateway that rests in its life. Stopped within it, or after it, that is a life.
-/// If it ends well, the gateway rests again; with any fault but `Device` it goes on in its life, and may hold answers.
-/// Whatever the gateway holds when it begins, it goes on in its life, with these answers given out too; with `Device` that
-/// ends, with these given out. A stop within it is the end of its life, with all answers that were given out before.
+/// Takes events (`Gateway::run`), for a gateway in its life, whatever it holds. After Ok, or any fault but `Device`, it
+/// goes on in its life, with these answers given out too; with `Device` that ends, with these given out. A stop within it
+/// ends the life, with the answers given out before. One that rested, and ends well, rests again.
 ///
 /// # Errors
 ///
@@ -178,9 +177,10 @@ pub fn compact_in_lives<D: Disk + Drop>(gateway: &mut Gateway<D>) -> Result<(), 
 
 /// Between two calls a stop is the end of a life. What the calls of a gateway promise leads on in its life, or to its end:
 /// `offer`, `take_packet` and `take_event` (`takes`), `flush` and `settle` (`syncs`), and the calls of `running`
-/// (`CarriesOn`, `BreaksOff`). A stop within them is its end (`SafeWithin`), also within a run of events that begins while
-/// answers are held (`SafeThrough`). A held answer counts as given out once `flush` or `settle` has ended well, and not
-/// before, also if it was told in place.
+/// (`CarriesOn` in `carries`; `BreaksOff`, at the run that `IsInLife` has, gives what `ends` and `stands` take). A stop
+/// within them is its end (`SafeWithin`), also within a run of events that begins while answers are held
+/// (`SafeThrough`). A held answer counts as given out once `flush` or `settle` has ended well, and not before, also if it
+/// was told in place.
 pub fn calls_are_lives<D: Disk>(_: &D)
     ensures { CallsAreLives D.honest D.moment D.left D.seen D.failed }
 {}

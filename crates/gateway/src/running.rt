@@ -11,8 +11,9 @@
 //! - `settle`: what is held is synced, for those who have its answers (`Gateway::settle`)
 //! - `compact`: what is held is handed out, and the files are made short (`Gateway::compact`)
 //!
-//! `take`, `hand_out` and `compact` put answers behind a list. They speak of runs of which the answers in that list were
-//! the last that were handed out. So a run begins with an empty list, and nothing else is put behind it.
+//! `take`, `hand_out` and `compact` put answers behind a list, and take none out (`more`; `items` and `no_items`). They
+//! speak of runs of which the answers in that list were the last that were handed out. So a run begins with an empty
+//! list, and nothing else is put behind it.
 ghost use Rattle.std.specs.Prelude.{◌≡◌, ◌≢◌, ◌↔◌, ◌⊎◌, ◌+◌, ◌-◌, ◌^◌, ◌<◌, ◌≤◌, ◌++◌, ◌∷◌, [], ℕ, List, false, length};
 ghost use Rattle.std.specs.Prelude.{IfErr, IsTrue, OnErr, OnOk, true, vec_capacity, vec_len};
 ghost use Rattle.machine.specs.declared.event.Answer.{Answer};
@@ -102,6 +103,7 @@ pub fn take<D: Disk + Drop>(
         → IfErr result (λ e. (e ≡ GatewayFault.NumbersOut) ⊎ (e ≡ GatewayFault.Device)) }
     ensures not_taken { OnErr result ((gateway.new.told.state ≡ gateway.old.told.state)
         × (gateway.new.told.last ≡ gateway.old.told.last)) }
+    ensures more { length answers.old.items ≤ length answers.new.items }
     ensures room { vec_len answers.new + length gateway.new.told.held
         ≤ vec_len answers.old + length gateway.old.told.held + 1 }
     ensures capacity { vec_capacity answers.old ≤ vec_capacity answers.new }
@@ -137,6 +139,7 @@ fn take_behind_compaction<D: Disk + Drop>(
     ensures stands { OnOk result (gateway.new.fallen ≡ false) }
     ensures not_taken { OnErr result ((gateway.new.told.state ≡ gateway.old.told.state)
         × (gateway.new.told.last ≡ gateway.old.told.last)) }
+    ensures more { length answers.old.items ≤ length answers.new.items }
     ensures room { vec_len answers.new + length gateway.new.told.held
         ≤ vec_len answers.old + length gateway.old.told.held + 1 }
     ensures capacity { vec_capacity answers.old ≤ vec_capacity answers.new }
@@ -177,6 +180,7 @@ pub fn compact<D: Disk + Drop>(
     ensures grown { OnOk result (gateway.new.grown ≡ 0) }
     ensures settled { gateway.old.told.held ≡ [] → gateway.new.told.held ≡ [] }
     ensures quiet { gateway.old.told.held ≡ [] → answers.new.items ≡ answers.old.items }
+    ensures more { length answers.old.items ≤ length answers.new.items }
     ensures room { vec_len answers.new + length gateway.new.told.held
         ≡ vec_len answers.old + length gateway.old.told.held }
     ensures capacity { vec_capacity answers.old ≤ vec_capacity answers.new }
@@ -226,6 +230,7 @@ fn flush_held_full<D: Disk + Drop>(
     ensures state { gateway.new.told.state ≡ gateway.old.told.state }
     ensures last { gateway.new.told.last ≡ gateway.old.told.last }
     ensures more { OnOk result (length answers.old.items ≤ length answers.new.items) }
+    ensures no_items { OnErr result (answers.new.items ≡ answers.old.items) }
     ensures few { OnOk result (length gateway.new.told.held < 64) }
     ensures room { vec_len answers.new + length gateway.new.told.held
         ≡ vec_len answers.old + length gateway.old.told.held }
@@ -333,6 +338,7 @@ fn offer<D: Disk + Drop>(
         → BreaksOff D.honest D.moment D.left D.failed gateway.old gateway.new (event ∷ [])
         (before ++ answers.old.items) (before ++ answers.new.items) e.1) }
     ensures stands { OnOk result (gateway.new.fallen ≡ false) }
+    ensures more { length answers.old.items ≤ length answers.new.items }
     ensures room { vec_len answers.new + length gateway.new.told.held
         ≤ vec_len answers.old + length gateway.old.told.held + 1 }
     ensures capacity { vec_capacity answers.old ≤ vec_capacity answers.new }

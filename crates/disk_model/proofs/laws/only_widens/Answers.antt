@@ -19,11 +19,18 @@ module _ {D : Type 0} (honest : D → Type 0) (moment : D → ℕ) (left : D →
       let before = rises n old calls.0 calls.1 in
       widens calls.0 new t files calls.2 (omega (arith, le, before)) (keeps n old calls.0 t files calls.1 le is)
 
+  since_entry : ((disk : D) (s t : ℕ) (files : Files) → s ≤ t → left disk t files → left disk s files) → (m n : ℕ) (old mid new : D) (t : ℕ) (files : Files)
+      → AreCalls honest moment left m old mid → AreCalls honest moment left n mid new → moment old ≤ t → left mid t files → left new (moment old) files
+  since_entry earlier m n old mid new t files first then since is =
+      keeps n mid new (moment old) files then (rises m old mid first) (earlier mid (moment old) t files since is)
+
 pub returns : goal.returns
-returns g c = record {
-  with_calls = widens g.D.Disk.honest g.D.Disk.moment g.D.Disk.left;
-  with_moments = g.met.D.Disk.earlier;
-  within = λ m n old mid new files first then now.
-      let le = rises g.D.Disk.honest g.D.Disk.moment g.D.Disk.left m old mid first in
-      keeps g.D.Disk.honest g.D.Disk.moment g.D.Disk.left n mid new (g.D.Disk.moment old) files then le (g.met.D.Disk.earlier mid (g.D.Disk.moment old) (g.D.Disk.moment mid) files le now);
-}
+returns g c =
+    let moment = g.D.Disk.moment in
+    let since = since_entry g.D.Disk.honest moment g.D.Disk.left g.met.D.Disk.earlier in
+    record {
+      with_calls = widens g.D.Disk.honest moment g.D.Disk.left;
+      with_moments = g.met.D.Disk.earlier;
+      between = λ m n old mid new files first then now. since m n old mid new (moment mid) files first then (rises g.D.Disk.honest moment g.D.Disk.left m old mid first) now;
+      within = since;
+    }

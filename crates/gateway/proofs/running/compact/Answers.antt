@@ -21,3 +21,9 @@ returns-clause-any_moment g c =
     λ before. within-then _ _ _ _ g.met.D.Disk.earlier _ _ c.compact_settled.new.gateway _ _ (h.any_moment before) (h.ok before)
     (more-behind before old out (omega (arith, ap length h.items, length-append old c.args.gateway.now.told.held)))
     (c.compact_settled.ensures.any_moment (before ++ out))
+
+pub returns-in_err-hand_out-clause-more : goal.returns-in_err-hand_out-clause-more
+returns-in_err-hand_out-clause-more g c = omega (arith, ap length c.in_err-hand_out.ensures.no_items)
+
+pub returns-clause-more : goal.returns-clause-more
+returns-clause-more g c = omega (arith, ap length c.in_ok-hand_out.ensures.items, length-append c.args.answers.now.items c.args.gateway.now.told.held)

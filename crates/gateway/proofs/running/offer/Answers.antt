@@ -1,4 +1,4 @@
-use Rattle.std.proofs.Common.{◌++◌, ◌∷◌, [], List, ℕ, ap, append_assoc, ◌∙◌, sym, subst}
+use Rattle.std.proofs.Common.{◌++◌, ◌∷◌, [], List, ℕ, ap, append_assoc, arith, length, length-append, ◌∙◌, sym, subst}
 use Rattle.std.proofs.lemmas.Result.{err_from_is_err_and}
 use Rattle.machine.specs.declared.event.Answer.{Answer}
 use Rattle.gateway.specs.Given.{handed}
@@ -26,3 +26,6 @@ returns-in_err-given-clause-any_moment g c = λ before. still _ _ _ _ g.met.D.Di
 
 pub returns-clause-any_moment : goal.returns-clause-any_moment
 returns-clause-any_moment g c = λ before. still _ _ _ _ g.met.D.Disk.earlier _ c.offer.new.self c.in_ok-given.ensures.disk (before ++ c.args.answers.now.items)
+
+pub returns-clause-more : goal.returns-clause-more
+returns-clause-more g c = omega (arith, ap length c.put.ensures.items, length-append c.args.answers.now.items (handed c.in_ok-given.given))

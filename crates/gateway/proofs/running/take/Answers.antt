@@ -1,4 +1,4 @@
-use Rattle.std.proofs.Common.{◌∷◌, ◌++◌, [], sym, ◌∙◌}
+use Rattle.std.proofs.Common.{◌∷◌, ◌++◌, [], sym, ◌∙◌, ap, arith, length}
 use Rattle.std.proofs.lemmas.Bool.{false≢true}
 use Rattle.std.proofs.lemmas.Result.{err_from_is_err_and, IfErr-weaker, on_ok_weaker}
 use Rattle.gateway.proofs.Runs.{breaks-before, breaks-then, carries-then, more-behind, within-then}
@@ -46,3 +46,15 @@ pub returns-clause-any_moment : goal.returns-clause-any_moment
 returns-clause-any_moment g c =
     let f = c.in_ok-flush_held_full.ensures in
     λ before. within-then _ _ _ _ g.met.D.Disk.earlier _ _ c.offer.new.gateway _ _ (f.any_moment before) (f.ok before) (more-behind before _ _ f.more) (c.in-Err.ensures.any_moment before)
+
+pub returns-in_err-flush_held_full-clause-more : goal.returns-in_err-flush_held_full-clause-more
+returns-in_err-flush_held_full-clause-more g c = omega (arith, ap length c.in_err-flush_held_full.ensures.no_items)
+
+pub returns-then-is_full-clause-more : goal.returns-then-is_full-clause-more
+returns-then-is_full-clause-more g c = omega (arith, c.in_ok-flush_held_full.ensures.more, ap (λ v. length v.items) c.in-Err.ensures.err.2, c.take_behind_compaction.ensures.more)
+
+pub returns-in_default-clause-more : goal.returns-in_default-clause-more
+returns-in_default-clause-more g c = omega (arith, c.in_ok-flush_held_full.ensures.more, c.offer.ensures.more)
+
+pub returns-clause-more : goal.returns-clause-more
+returns-clause-more g c = omega (arith, c.in_ok-flush_held_full.ensures.more, c.offer.ensures.more)
