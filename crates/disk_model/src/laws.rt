@@ -15,8 +15,8 @@ pub fn synced_elsewhere<D: Disk>(_: &D)
 {}
 
 /// What a crash at any moment since an earlier one might have left only widens: with each call it keeps what it had,
-/// and of two moments the earlier has all that the later has. So a stop in the midst of several calls leaves only what a
-/// crash might have left since they began, by the disk as they would have ended with.
+/// and of two moments the earlier has all that the later has. So a stop between several calls, or within one of them,
+/// leaves only what a crash might have left since they began, by the disk with which they end.
 pub fn only_widens<D: Disk>(_: &D)
     ensures { OnlyWidens D.honest D.moment D.left }
 {}

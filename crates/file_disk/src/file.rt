@@ -16,7 +16,8 @@ pub trait DiskFile {
     /// The bytes that a read gives.
     ghost holds: { Self → List ℕ };
 
-    /// What a crash now may leave of it.
+    /// What a crash now may leave of it. What a stop within a call leaves, a crash could leave before that call, or may
+    /// leave behind it.
     ghost leaves: { Self → List ℕ → Type 0 };
 
     /// Its name leads to it.

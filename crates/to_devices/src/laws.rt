@@ -7,7 +7,7 @@ pub fn open_comes_right()
     ensures { OpenComesRight }
 {}
 
-/// Bytes are the frames of answers in one way alone: the same packets leave, however they are told apart.
+/// If the same bytes are the frames of these answers and of those, both let out the same packets.
 pub fn leaves_alike()
     ensures { LeavesAlike }
 {}
