@@ -43,8 +43,8 @@ module _ {D : Type 0} (honest : D → Type 0) (moment : D → ℕ) (left : D →
         (given ++ answered) now.disk later.disk
 
   -- A stop in the midst of a run, over a gateway that rests in its life, with what the run promises of each of its
-  -- turns (`AtEachTurn`): since a turn began, and before the next one did. Each answer counts as given out by which the
-  -- devices were handed a packet in the turns before.
+  -- turns (`AtEachTurn`): since a turn began, and before the next one did. All answers of the turns before count as given
+  -- out, whatever they say.
   abbrev pub CarryStopsAreLives : Type 0
   CarryStopsAreLives = (config : Config) (entry : D) (opened_at : ℕ) (begun old now later : Kept D)
       (events : List Event) (given : List (ℕ × Answer)) (last : ℕ) (before : List Turn)
@@ -56,8 +56,8 @@ module _ {D : Type 0} (honest : D → Type 0) (moment : D → ℕ) (left : D →
 
   -- A stop in the midst of a run, over a gateway that rests in its life, with what the run promises of a turn that didn't
   -- fail (`Settles`): since the turn settled, and before the next one began or the run ended. All events up to this
-  -- turn count as taken, and all their answers as given out. Of a stop
-  -- before the turn settled `CarryStopsAreLives` speaks (`comes`).
+  -- turn count as taken, and all their answers as given out. Of a stop before the turn settled `CarryStopsAreLives`
+  -- speaks (`comes`).
   abbrev pub SettledStopsAreLives : Type 0
   SettledStopsAreLives = (config : Config) (entry : D) (opened_at : ℕ) (begun old now later : Kept D)
       (events : List Event) (given answered : List (ℕ × Answer)) (last : ℕ) (before : List Turn)
@@ -69,8 +69,8 @@ module _ {D : Type 0} (honest : D → Type 0) (moment : D → ℕ) (left : D →
       by.settled.disk later.disk
 
   -- A whole run, over a gateway that rests in its life, is as one of the edge over the events of its turns: a stop in
-  -- it or after it is the end of the life, and unless the gateway has fallen it rests again. Of the answers given out
-  -- those are the first by which the devices were handed packets.
+  -- it or after it is the end of the life, and unless the gateway has fallen it rests again. The answers by which the
+  -- devices were handed packets are the first of those that are given out.
   abbrev pub CarryRunsAreLives : Type 0
   CarryRunsAreLives = (config : Config) (entry : D) (opened_at : ℕ) (begun old new : Kept D)
       (events : List Event) (given : List (ℕ × Answer)) (ended : Result (Unit {0}) EdgeFault)

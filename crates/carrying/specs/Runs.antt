@@ -141,7 +141,7 @@ module _ {D : Type 0} (honest : D → Type 0) (moment : D → ℕ) (left : D →
   -- loses an event of this turn, or of one before.
   pub record Settles (last : ℕ) (before : List Turn) (turn : Turn) (answered : List (ℕ × Answer))
       (lan lan' wan wan' : Frames) : Type 0 where
-    -- it may be the later one
+    -- perhaps `later` itself
     pub settled : Kept D
     -- up to it nothing is lost of the turns before
     pub comes : ComesBy honest moment left old now settled last before turn lan lan' wan wan'

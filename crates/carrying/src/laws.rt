@@ -7,11 +7,11 @@ use disk_model::Disk;
 use machine::laws::events_are_judged_once;
 
 /// A run of turns over a gateway that rests in its life is the end of that life, if it is stopped in its midst, since a
-/// turn began and before the next one did. Each answer counts as given out that led to what the devices were handed in
-/// the turns before. Just the events of these were taken when the turn began, and no event counts as taken that came in
-/// a later turn (`stops`). Once a turn has settled that didn't fail, all its events count as taken, and its answers as
-/// given out (`settled`). A stop after the run is the end of the life too; and unless the gateway has fallen, it rests
-/// again (`runs`). So `gateway::laws::lives_are_the_models` holds of the gateway that is opened afterwards.
+/// turn began and before the next one did. All answers to the events of the turns before count as given out. Just these
+/// events were taken when the turn began, and no event counts as taken that came in a later turn (`stops`). Once a turn
+/// has settled that didn't fail, all its events count as taken, and its answers as given out (`settled`). A stop after
+/// the run is the end of the life too; and unless the gateway has fallen, it rests again (`runs`). So
+/// `gateway::laws::lives_are_the_models` holds of the gateway that is opened afterwards.
 pub fn stops_are_lives<D: Disk>(_: &D)
     ensures stops { CarryStopsAreLives D.honest D.moment D.left D.seen }
     ensures settled { SettledStopsAreLives D.honest D.moment D.left D.seen }

@@ -21,10 +21,10 @@ use gateway::laws::lives_are_the_models;
 use packet::Bounds;
 use std::alloc::Global;
 
-/// Files that an opening has prepared, or that a failed one has left, are such as the next gateway may find, if they were
-/// such before that opening: what a crash leaves of a disk that was opened is as `open_over_in_lives` asks of it, behind
-/// earlier lives. Files of which no earlier life is known are found as they read, if both are whole and synced, and stand
-/// for a state of this configuration.
+/// Files may be such as the next gateway may find. Then they still are behind an opening of the directory, whether it has
+/// prepared them (`prepared`) or has failed (`left`). What a crash leaves of the disk that it makes of them is then what
+/// `open_over_in_lives` asks for, behind earlier lives. Of files of which no earlier life is known that holds as they
+/// read, if both are whole and synced, and stand for a state of this configuration (`read`).
 pub fn openings_find<F: DiskFile>(file: &F)
     ensures { (config : Config) → OpeningsFind F.honest F.holds F.leaves config F.lacks_space }
 {
@@ -67,11 +67,11 @@ pub fn open_over_in_lives<D: Disk + Drop>(
 
 /// Of a gateway that rests in its life and serves clients one after the other (`serve_each`), a stop at any moment is
 /// the end of a life: between two clients, while one is served, or after it. Each answer counts as given out that the
-/// client had taken behind the last turn that began before the stop. After so many visits it rests in the same life, in
-/// which it has taken of each client the first of the events that it gave, and the next visit may follow. A service that
-/// ends is part of that life too (`ends`). So `gateway::laws::lives_are_the_models` holds of a whole service, of the
-/// stops in it, and of the gateways that are opened afterwards. So it does of clients of whom nothing is seen, as
-/// `natgw serve` has them (`unseen`).
+/// client had taken by the end of the last turn that began before the stop. After so many visits it rests in the same
+/// life, in which it has taken of each client the first of the events that it gave, and the next visit may follow. A
+/// service that ends is part of that life too (`ends`). So `gateway::laws::lives_are_the_models` holds of a whole
+/// service, of the stops in it, and of the gateways that are opened afterwards. So it does of clients of whom nothing
+/// is seen, as `natgw serve` has them (`unseen`).
 pub fn visits_are_lives<C: Clients, D: Disk>(_: &C, _: &D)
     ensures visits { VisitsAreLives D.honest D.moment D.left D.seen D.failed C.came C.went C.ended C.left C.missed }
     ensures unseen { UnseenVisitsAreLives D.honest D.moment D.left D.seen D.failed }

@@ -135,3 +135,16 @@ module _ {D : Type 0} (honest : D → Type 0) (moment : D → ℕ) (left : D →
     pub breaks : (before : List (ℕ × Answer)) → BreaksOff events before (before ++ out) why
     pub state : new.told.state ≡ old.told.state
     pub last : new.told.last ≡ old.told.last
+
+  -- It takes these events, and puts what it hands out behind a list.
+  pub record PutsBehind (events : List Event) (list list' : List (ℕ × Answer)) : Type 0 where
+    pub out : List (ℕ × Answer)
+    pub behind : list' ≡ list ++ out
+    pub carries : (before : List (ℕ × Answer)) → CarriesOn events before (before ++ out)
+
+  -- It takes a first part of them, with this fault, and puts what it has handed out behind a list.
+  pub record FailsBehind (events : List Event) (list list' : List (ℕ × Answer))
+      (why : GatewayFault) : Type 0 where
+    pub out : List (ℕ × Answer)
+    pub behind : list' ≡ list ++ out
+    pub breaks : (before : List (ℕ × Answer)) → BreaksOff events before (before ++ out) why

@@ -11,15 +11,13 @@
 //! - `settle`: what is held is synced, for those who have its answers (`Gateway::settle`)
 //! - `compact`: what is held is handed out, and the files are made short (`Gateway::compact`)
 //!
-//! `take`, `hand_out` and `compact` put answers behind a list, and take none out (`more`; `items` and `no_items`). They
-//! speak of runs of which the answers in that list were the last that were handed out. So a run begins with an empty
-//! list, and nothing else is put behind it.
+//! `take`, `hand_out` and `compact` put what they hand out behind a list, and never look at what is in it.
 ghost use Rattle.std.specs.Prelude.{◌≡◌, ◌≢◌, ◌↔◌, ◌⊎◌, ◌+◌, ◌-◌, ◌^◌, ◌<◌, ◌≤◌, ◌++◌, ◌∷◌, [], ℕ, List, false, length};
 ghost use Rattle.std.specs.Prelude.{IfErr, IsTrue, OnErr, OnOk, true, vec_capacity, vec_len};
 ghost use Rattle.machine.specs.declared.event.Answer.{Answer};
 ghost use Rattle.gateway.specs.Kept.{IsRoomy};
 ghost use Rattle.gateway.specs.Given.{handed};
-ghost use Rattle.gateway.specs.Running.{BreaksOff, CarriesOn, Ends, SafeThrough, SafeWithin, Stands, StopsWithin};
+ghost use Rattle.gateway.specs.Running.{BreaksOff, CarriesOn, Ends, FailsBehind, PutsBehind, SafeThrough, SafeWithin, Stands, StopsWithin};
 
 use crate::calls::Gateway;
 pub use crate::in_place::{take_load, take_moment, take_packet};
@@ -89,21 +87,17 @@ pub fn take<D: Disk + Drop>(
     requires stands { gateway.old.fallen ≡ false }
     requires room { vec_len answers.old + length gateway.old.told.held + 1
         ≤ vec_capacity answers.old }
-    ensures ok { OnOk result ((before : List (ℕ × Answer))
-        → CarriesOn D.honest D.moment D.left D.failed gateway.old gateway.new (event ∷ [])
-        (before ++ answers.old.items) (before ++ answers.new.items)) }
-    ensures err { IfErr result (λ e. (before : List (ℕ × Answer))
-        → BreaksOff D.honest D.moment D.left D.failed gateway.old gateway.new (event ∷ [])
-        (before ++ answers.old.items) (before ++ answers.new.items) e) }
+    ensures ok { OnOk result (PutsBehind D.honest D.moment D.left D.failed
+        gateway.old gateway.new (event ∷ []) answers.old.items answers.new.items) }
+    ensures err { IfErr result (λ e. FailsBehind D.honest D.moment D.left D.failed
+        gateway.old gateway.new (event ∷ []) answers.old.items answers.new.items e) }
     ensures any_moment { (before : List (ℕ × Answer))
-        → SafeWithin D.honest D.moment D.left D.failed gateway.old gateway.new
-        (before ++ answers.old.items) }
+        → SafeWithin D.honest D.moment D.left D.failed gateway.old gateway.new before }
     ensures stands { OnOk result (gateway.new.fallen ≡ false) }
     ensures numbers_out { gateway.old.told.last ≡ 2 ^ 64 - 1
         → IfErr result (λ e. (e ≡ GatewayFault.NumbersOut) ⊎ (e ≡ GatewayFault.Device)) }
     ensures not_taken { OnErr result ((gateway.new.told.state ≡ gateway.old.told.state)
         × (gateway.new.told.last ≡ gateway.old.told.last)) }
-    ensures more { length answers.old.items ≤ length answers.new.items }
     ensures room { vec_len answers.new + length gateway.new.told.held
         ≤ vec_len answers.old + length gateway.old.told.held + 1 }
     ensures capacity { vec_capacity answers.old ≤ vec_capacity answers.new }
@@ -127,19 +121,15 @@ fn take_behind_compaction<D: Disk + Drop>(
     requires stands { gateway.old.fallen ≡ false }
     requires room { vec_len answers.old + length gateway.old.told.held + 1
         ≤ vec_capacity answers.old }
-    ensures ok { OnOk result ((before : List (ℕ × Answer))
-        → CarriesOn D.honest D.moment D.left D.failed gateway.old gateway.new (event ∷ [])
-        (before ++ answers.old.items) (before ++ answers.new.items)) }
-    ensures err { IfErr result (λ e. (before : List (ℕ × Answer))
-        → BreaksOff D.honest D.moment D.left D.failed gateway.old gateway.new (event ∷ [])
-        (before ++ answers.old.items) (before ++ answers.new.items) e) }
+    ensures ok { OnOk result (PutsBehind D.honest D.moment D.left D.failed
+        gateway.old gateway.new (event ∷ []) answers.old.items answers.new.items) }
+    ensures err { IfErr result (λ e. FailsBehind D.honest D.moment D.left D.failed
+        gateway.old gateway.new (event ∷ []) answers.old.items answers.new.items e) }
     ensures any_moment { (before : List (ℕ × Answer))
-        → SafeWithin D.honest D.moment D.left D.failed gateway.old gateway.new
-        (before ++ answers.old.items) }
+        → SafeWithin D.honest D.moment D.left D.failed gateway.old gateway.new before }
     ensures stands { OnOk result (gateway.new.fallen ≡ false) }
     ensures not_taken { OnErr result ((gateway.new.told.state ≡ gateway.old.told.state)
         × (gateway.new.told.last ≡ gateway.old.told.last)) }
-    ensures more { length answers.old.items ≤ length answers.new.items }
     ensures room { vec_len answers.new + length gateway.new.told.held
         ≤ vec_len answers.old + length gateway.old.told.held + 1 }
     ensures capacity { vec_capacity answers.old ≤ vec_capacity answers.new }
@@ -163,15 +153,12 @@ pub fn compact<D: Disk + Drop>(
 ) -> Result<(), GatewayFault>
     requires stands { gateway.old.fallen ≡ false }
     requires room { vec_len answers.old + length gateway.old.told.held ≤ vec_capacity answers.old }
-    ensures ok { OnOk result ((before : List (ℕ × Answer))
-        → CarriesOn D.honest D.moment D.left D.failed gateway.old gateway.new []
-        (before ++ answers.old.items) (before ++ answers.new.items)) }
-    ensures err { IfErr result (λ e. (before : List (ℕ × Answer))
-        → BreaksOff D.honest D.moment D.left D.failed gateway.old gateway.new []
-        (before ++ answers.old.items) (before ++ answers.new.items) e) }
+    ensures ok { OnOk result (PutsBehind D.honest D.moment D.left D.failed
+        gateway.old gateway.new [] answers.old.items answers.new.items) }
+    ensures err { IfErr result (λ e. FailsBehind D.honest D.moment D.left D.failed
+        gateway.old gateway.new [] answers.old.items answers.new.items e) }
     ensures any_moment { (before : List (ℕ × Answer))
-        → SafeWithin D.honest D.moment D.left D.failed gateway.old gateway.new
-        (before ++ answers.old.items) }
+        → SafeWithin D.honest D.moment D.left D.failed gateway.old gateway.new before }
     ensures stands { OnOk result (gateway.new.fallen ≡ false) }
     ensures state { gateway.new.told.state ≡ gateway.old.told.state }
     ensures last { gateway.new.told.last ≡ gateway.old.told.last }
@@ -180,7 +167,6 @@ pub fn compact<D: Disk + Drop>(
     ensures grown { OnOk result (gateway.new.grown ≡ 0) }
     ensures settled { gateway.old.told.held ≡ [] → gateway.new.told.held ≡ [] }
     ensures quiet { gateway.old.told.held ≡ [] → answers.new.items ≡ answers.old.items }
-    ensures more { length answers.old.items ≤ length answers.new.items }
     ensures room { vec_len answers.new + length gateway.new.told.held
         ≡ vec_len answers.old + length gateway.old.told.held }
     ensures capacity { vec_capacity answers.old ≤ vec_capacity answers.new }
@@ -216,21 +202,16 @@ fn flush_held_full<D: Disk + Drop>(
 ) -> Result<(), GatewayFault>
     requires stands { gateway.old.fallen ≡ false }
     requires room { vec_len answers.old + length gateway.old.told.held ≤ vec_capacity answers.old }
-    ensures ok { OnOk result ((before : List (ℕ × Answer))
-        → CarriesOn D.honest D.moment D.left D.failed gateway.old gateway.new []
-        (before ++ answers.old.items) (before ++ answers.new.items)) }
-    ensures err { IfErr result (λ e. (before : List (ℕ × Answer))
-        → BreaksOff D.honest D.moment D.left D.failed gateway.old gateway.new []
-        (before ++ answers.old.items) (before ++ answers.new.items) e) }
+    ensures ok { OnOk result (PutsBehind D.honest D.moment D.left D.failed
+        gateway.old gateway.new [] answers.old.items answers.new.items) }
+    ensures err { IfErr result (λ e. FailsBehind D.honest D.moment D.left D.failed
+        gateway.old gateway.new [] answers.old.items answers.new.items e) }
     ensures any_moment { (before : List (ℕ × Answer))
-        → SafeWithin D.honest D.moment D.left D.failed gateway.old gateway.new
-        (before ++ answers.old.items) }
+        → SafeWithin D.honest D.moment D.left D.failed gateway.old gateway.new before }
     ensures device { IfErr result (λ e. e ≡ GatewayFault.Device) }
     ensures stands { OnOk result (gateway.new.fallen ≡ false) }
     ensures state { gateway.new.told.state ≡ gateway.old.told.state }
     ensures last { gateway.new.told.last ≡ gateway.old.told.last }
-    ensures more { OnOk result (length answers.old.items ≤ length answers.new.items) }
-    ensures no_items { OnErr result (answers.new.items ≡ answers.old.items) }
     ensures few { OnOk result (length gateway.new.told.held < 64) }
     ensures room { vec_len answers.new + length gateway.new.told.held
         ≡ vec_len answers.old + length gateway.old.told.held }
@@ -253,15 +234,12 @@ pub fn hand_out<D: Disk + Drop>(
 ) -> Result<(), GatewayFault>
     requires stands { gateway.old.fallen ≡ false }
     requires room { vec_len answers.old + length gateway.old.told.held ≤ vec_capacity answers.old }
-    ensures ok { OnOk result ((before : List (ℕ × Answer))
-        → CarriesOn D.honest D.moment D.left D.failed gateway.old gateway.new []
-        (before ++ answers.old.items) (before ++ answers.new.items)) }
-    ensures err { IfErr result (λ e. (before : List (ℕ × Answer))
-        → BreaksOff D.honest D.moment D.left D.failed gateway.old gateway.new []
-        (before ++ answers.old.items) (before ++ answers.new.items) e) }
+    ensures ok { OnOk result (PutsBehind D.honest D.moment D.left D.failed
+        gateway.old gateway.new [] answers.old.items answers.new.items) }
+    ensures err { IfErr result (λ e. FailsBehind D.honest D.moment D.left D.failed
+        gateway.old gateway.new [] answers.old.items answers.new.items e) }
     ensures any_moment { (before : List (ℕ × Answer))
-        → SafeWithin D.honest D.moment D.left D.failed gateway.old gateway.new
-        (before ++ answers.old.items) }
+        → SafeWithin D.honest D.moment D.left D.failed gateway.old gateway.new before }
     ensures stands { OnOk result (gateway.new.fallen ≡ false) }
     ensures state { gateway.new.told.state ≡ gateway.old.told.state }
     ensures last { gateway.new.told.last ≡ gateway.old.told.last }
@@ -323,22 +301,19 @@ fn offer<D: Disk + Drop>(
     requires few { length gateway.old.told.held < 64 }
     requires room { vec_len answers.old + length gateway.old.told.held + 1
         ≤ vec_capacity answers.old }
-    ensures ok { OnOk result ((before : List (ℕ × Answer))
-        → CarriesOn D.honest D.moment D.left D.failed gateway.old gateway.new (event ∷ [])
-        (before ++ answers.old.items) (before ++ answers.new.items)) }
+    ensures ok { OnOk result (PutsBehind D.honest D.moment D.left D.failed
+        gateway.old gateway.new (event ∷ []) answers.old.items answers.new.items) }
     ensures err { IfErr result (λ e. (e.0 ≡ event) × (gateway.new ≡ gateway.old)
         × (answers.new ≡ answers.old)) }
     ensures any_moment { (before : List (ℕ × Answer))
-        → SafeWithin D.honest D.moment D.left D.failed gateway.old gateway.new
-        (before ++ answers.old.items) }
+        → SafeWithin D.honest D.moment D.left D.failed gateway.old gateway.new before }
     ensures full { IsRoomy gateway.old.filled → IfErr result (λ e. e.1 ≢ GatewayFault.Full) }
     ensures numbers_out { gateway.old.told.last ≡ 2 ^ 64 - 1
         → IfErr result (λ e. e.1 ≡ GatewayFault.NumbersOut) }
-    ensures why { IfErr result (λ e. e.1 ≢ GatewayFault.Full → (before : List (ℕ × Answer))
-        → BreaksOff D.honest D.moment D.left D.failed gateway.old gateway.new (event ∷ [])
-        (before ++ answers.old.items) (before ++ answers.new.items) e.1) }
+    ensures why { IfErr result (λ e. e.1 ≢ GatewayFault.Full
+        → FailsBehind D.honest D.moment D.left D.failed gateway.old gateway.new (event ∷ [])
+        answers.old.items answers.new.items e.1) }
     ensures stands { OnOk result (gateway.new.fallen ≡ false) }
-    ensures more { length answers.old.items ≤ length answers.new.items }
     ensures room { vec_len answers.new + length gateway.new.told.held
         ≤ vec_len answers.old + length gateway.old.told.held + 1 }
     ensures capacity { vec_capacity answers.old ≤ vec_capacity answers.new }

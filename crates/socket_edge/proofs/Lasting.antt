@@ -90,6 +90,8 @@ module _ {D : Type 0} (honest : D → Type 0) (moment : D → ℕ) (left : D →
         judged = o.judged;
         are_judged = o.are_judged;
         reached = o.reached;
+        unsent = o.unsent;
+        begins = o.begins;
         since = λ n fits whole. idle moment left b.disk (IsSafe a.told.config a.told.state o.front n) (o.at_exit n fits whole);
         configured = idle moment left b.disk (IsConfigured a.told.config)
             (only_now moment left a.disk b.disk (IsConfigured a.told.config) (earlier b.disk) (f.configured ready.is_honest ready.stands));
@@ -108,6 +110,8 @@ module _ {D : Type 0} (honest : D → Type 0) (moment : D → ℕ) (left : D →
         judged = o.judged;
         are_judged = o.are_judged;
         reached = o.reached;
+        unsent = flat_map frame all;
+        begins = refl;
         since = λ n fits whole.
             let few : n ≤ 0 = not-longer [] all n (omega (arith, fits, size)) whole in
             let none : 0 ≡ n = omega (arith, few) in
@@ -134,6 +138,11 @@ module _ {D : Type 0} (honest : D → Type 0) (moment : D → ℕ) (left : D →
     replies_are : (later : List Judged) → replies a.told (p.took.judged ++ later) ≡ replies a.told p.took.judged ++ replies b.told later
     replies_are later = replies-append a.told b.told p.took.judged later p.took.config p.took.state (last_of a.told b.told es p.handed p.took)
 
+    frames-then : (a.told.held ≡ [] → b.told.held ≡ []) → a.told.held ≡ [] → (later : List Judged) → w ++ flat_map frame (replies b.told later) ≡ flat_map frame (replies a.told (p.took.judged ++ later))
+    frames-then none held later =
+        ap (λ (x : List ℕ). x ++ flat_map frame (replies b.told later)) (all_sent a.told b.told es w p none held)
+        ∙ sym (flat_map-append frame (replies a.told p.took.judged) (replies b.told later)) ∙ ap (flat_map frame) (sym (replies_are later))
+
     many : length (replies a.told p.took.judged) ≡ length es
     many = replies-length a.told p.took.judged ∙ AreJudged-length a.told.config es p.took.judged p.took.are_judged
 
@@ -149,6 +158,8 @@ module _ {D : Type 0} (honest : D → Type 0) (moment : D → ℕ) (left : D →
             judged = js ++ k.judged;
             are_judged = AreJudged-append a.told.config es k.front js k.judged p.took.are_judged (subst (λ (c : Config). AreJudged c k.front k.judged) p.took.config k.are_judged);
             reached = Reached-then a.told b.told c.told js k.judged (reached-told a.told b.told es p.handed p.took) k.reached;
+            unsent = k.unsent;
+            begins = append_assoc w short k.unsent ∙ ap (λ (x : List ℕ). w ++ x) k.begins ∙ frames-then none held k.judged;
             since = λ n fits whole.
                 let first = replies a.told js in
                 let m = n - length first in
@@ -161,16 +172,24 @@ module _ {D : Type 0} (honest : D → Type 0) (moment : D → ℕ) (left : D →
           }
 
       -- as the events of the first part are judged
-      as-taken : EventsAreJudgedOnce → (short : List ℕ) → Preserves honest moment left a x b es short → (n : ℕ) → n ≤ length es → length (flat_map frame (take n (replies a.told p.took.judged))) ≤ length short
-          → LeavesOnly moment left x.disk b.disk (IsSafe a.told.config a.told.state es n)
-      as-taken once short k n fits whole =
-          let size : length k.judged ≡ length k.front = AreJudged-length a.told.config k.front k.judged k.are_judged in
-          let last : b.told.last ≡ a.told.last + length es = p.took.last in
-          let nothing : k.back ≡ [] = nil_from_length k.back (omega (arith, ap length k.split, length-append k.front k.back, size, k.reached.last, last)) in
-          let same : es ≡ k.front = k.split ∙ ap (λ (xs : List Event). k.front ++ xs) nothing ∙ append-nil k.front in
-          let one : p.took.judged ≡ k.judged = all-once once a.told.config k.front p.took.judged k.judged (subst (λ (xs : List Event). AreJudged a.told.config xs p.took.judged) same p.took.are_judged) k.are_judged in
-          subst (λ (xs : List Event). LeavesOnly moment left x.disk b.disk (IsSafe a.told.config a.told.state xs n)) (sym same)
-          (k.since n (omega (arith, fits, ap length same)) (subst (λ (js : List Judged). length (flat_map frame (take n (replies a.told js))) ≤ length short) one whole))
+      module _ (once : EventsAreJudgedOnce) (short : List ℕ) (k : Preserves honest moment left a x b es short) where
+        same-events : es ≡ k.front
+        same-events =
+            let size : length k.judged ≡ length k.front = AreJudged-length a.told.config k.front k.judged k.are_judged in
+            let last : b.told.last ≡ a.told.last + length es = p.took.last in
+            let nothing : k.back ≡ [] = nil_from_length k.back (omega (arith, ap length k.split, length-append k.front k.back, size, k.reached.last, last)) in
+            k.split ∙ ap (λ (xs : List Event). k.front ++ xs) nothing ∙ append-nil k.front
+
+        same-judged : p.took.judged ≡ k.judged
+        same-judged = all-once once a.told.config k.front p.took.judged k.judged (subst (λ (xs : List Event). AreJudged a.told.config xs p.took.judged) same-events p.took.are_judged) k.are_judged
+
+        as-taken : (n : ℕ) → n ≤ length es → length (flat_map frame (take n (replies a.told p.took.judged))) ≤ length short → LeavesOnly moment left x.disk b.disk (IsSafe a.told.config a.told.state es n)
+        as-taken n fits whole =
+            subst (λ (xs : List Event). LeavesOnly moment left x.disk b.disk (IsSafe a.told.config a.told.state xs n)) (sym same-events)
+            (k.since n (omega (arith, fits, ap length same-events)) (subst (λ (js : List Judged). length (flat_map frame (take n (replies a.told js))) ≤ length short) same-judged whole))
+
+        as-begun : short ++ k.unsent ≡ flat_map frame (replies a.told p.took.judged)
+        as-begun = k.begins ∙ ap (λ (js : List Judged). flat_map frame (replies a.told js)) (sym same-judged)
 
       -- what the first part preserves since then, the second doesn't lose
       pub preserves-on : EventsAreJudgedOnce → (short sent : List ℕ) → length short ≤ length w → IsAtRest honest a → IsAtRest honest b → Preserves honest moment left a x b es short → Fares honest moment left b c fs sent
@@ -188,6 +207,9 @@ module _ {D : Type 0} (honest : D → Type 0) (moment : D → ℕ) (left : D →
             judged = js ++ o.judged;
             are_judged = AreJudged-append a.told.config es o.front js o.judged p.took.are_judged (subst (λ (k : Config). AreJudged k o.front o.judged) p.took.config o.are_judged);
             reached = Reached-then a.told b.told c.told js o.judged (reached-told a.told b.told es p.handed p.took) o.reached;
+            unsent = k.unsent ++ flat_map frame then;
+            begins = sym (append_assoc short k.unsent (flat_map frame then)) ∙ ap (λ (l : List ℕ). l ++ flat_map frame then) (as-begun once short k)
+                ∙ sym (flat_map-append frame first then) ∙ ap (flat_map frame) (sym both);
             since = λ n fits whole.
                 let more : length then ≡ length o.front = replies-length b.told o.judged ∙ AreJudged-length b.told.config o.front o.judged o.are_judged in
                 let few : n ≤ length first = not-longer first then n (omega (arith, fits, length-append es o.front, length-append first then, many, more))
@@ -275,9 +297,8 @@ module _ {D : Type 0} (honest : D → Type 0) (moment : D → ℕ) (left : D →
             judged = k.judged;
             are_judged = k.are_judged;
             reached = k.reached;
-            unsent = o.unsent;
-            begins = append_assoc w sent o.unsent ∙ ap (λ (x : List ℕ). w ++ x) o.begins ∙ ap (λ (x : List ℕ). x ++ flat_map frame (replies b.told o.judged)) (all_sent a.told b.told es w p none ready.none)
-                ∙ sym (flat_map-append frame (replies a.told p.took.judged) (replies b.told o.judged)) ∙ ap (flat_map frame) (sym (replies_are honest moment left earlier a b c es fs w p o.judged));
+            unsent = k.unsent;
+            begins = k.begins;
             any_moment = any-then honest moment left earlier a b c es o.front w p (any ready) o.any_moment;
             at_exit = λ n fits whole. only_now moment left c.disk c.disk (IsSafe a.told.config a.told.state k.front n) (earlier c.disk) (k.since n fits whole);
           };

@@ -60,6 +60,8 @@ module _ {D : Type 0} (honest : D → Type 0) (moment : D → ℕ) (left : D →
         judged = k.judged;
         are_judged = k.are_judged;
         reached = k.reached;
+        unsent = k.unsent;
+        begins = k.begins;
         since = λ n le whole. stopped-first honest moment left seen config entry at begun events given old r now.disk later.disk k.front k.judged n k.are_judged le
             (λ files since. ((k.since n le whole).each files since).2)
             (λ files since. (k.configured.each files since).2);

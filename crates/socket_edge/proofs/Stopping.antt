@@ -64,6 +64,8 @@ module _ {D : Type 0} (honest : D → Type 0) (moment : D → ℕ) (left : D →
     judged = k.judged;
     are_judged = k.are_judged;
     reached = k.reached;
+    unsent = more ++ k.unsent;
+    begins = sym (append_assoc short more k.unsent) ∙ k.begins;
     since = λ n fits whole. k.since n fits (omega (arith, whole, length-append short more));
     configured = k.configured;
   }

@@ -50,8 +50,8 @@ module _ {D : Type 0} (honest : D → Type 0) (moment : D → ℕ) (left : D →
       → EdgeRuns config entry opened_at begun old new events given read sent
 
   -- The gateway's life had come to `events` and `given`, and the edge took it from `old` by `now` to `later`. When it was
-  -- at `now`, the first of the events so far were taken, and these bytes were sent by then. When it was at `later`, the
-  -- first of those were taken that were read by then.
+  -- at `now`, the first of the events so far were taken, and these bytes were sent, or were sent with the turn that
+  -- began then. When it was at `later`, the first of those were taken that were read by then.
   pub record EdgeStops (config : Config) (entry : D) (opened_at : ℕ) (begun old now later : Kept D)
       (events : List Event) (given : List (ℕ × Answer)) (so_far read : List Event)
       (sent : List ℕ) : Type 0 where
@@ -64,6 +64,9 @@ module _ {D : Type 0} (honest : D → Type 0) (moment : D → ℕ) (left : D →
     pub are_judged : AreJudged old.told.config front judged
     -- just these bring the gateway to the later one
     pub reached : Reached old.told later.told judged
+    -- what was sent is a beginning of their answers' frames
+    pub unsent : List ℕ
+    pub begins : sent ++ unsent ≡ frames (replies old.told judged)
     -- A stop since then, and before it was at the later one, is the end of a life, which knows of no event that was read
     -- later either. Each answer counts as given out whose frame lies whole in what was sent.
     pub since : (n : ℕ) → n ≤ length front

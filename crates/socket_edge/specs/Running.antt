@@ -140,15 +140,18 @@ module _ {D : Type 0} (honest : D → Type 0) (moment : D → ℕ) (left : D →
     pub judged : List Judged
     pub are_judged : AreJudged old.told.config front judged
     pub reached : Reached old.told later.told judged
+    -- they are a beginning of the answers' frames
+    pub unsent : List ℕ
+    pub begins : sent ++ unsent ≡ frames (replies old.told judged)
     pub since : (n : ℕ) → n ≤ length front
         → length (frames (take n (replies old.told judged))) ≤ length sent
         → LeavesOnly moment left now.disk later.disk
         (IsSafe old.told.config old.told.state front n)
     pub configured : LeavesOnly moment left now.disk later.disk (IsConfigured old.told.config)
 
-  -- A run came by `now`: it had taken the first of the events so far, and the bytes that were sent by then are a
-  -- beginning of their answers' frames. Then it came by `later`, when it had taken the first of these events. Of an
-  -- honest disk, where nothing was held at the entry, no crash between the two loses what the bytes answer.
+  -- A run came by `now`: it had taken the first of the events so far, and these bytes, which are sent from then on at
+  -- the latest, are a beginning of their answers' frames. Then it came by `later`, when it had taken the first of these
+  -- events. Of an honest disk, where nothing was held at the entry, no crash between the two loses what the bytes answer.
   pub record ComesBy (so_far events : List Event) (sent : List ℕ) : Type 0 where
     pub until : Fares honest moment left old now so_far sent
     pub since : IsAtRest honest old → Preserves events sent

@@ -1,5 +1,6 @@
 //! The command, put together.
 ghost use Rattle.std.specs.Prelude.{◌≡◌, [], false};
+ghost use Rattle.commands.specs.Working.{IsMadeAnew};
 
 use crate::attaching::attach;
 use crate::chores::Chores;
@@ -55,6 +56,7 @@ fn carry<R: Files + Eprint, D: Disk + Drop>(
 ) -> Result<(), Stop>
     requires stands { gateway.old.fallen ≡ false }
     requires none { gateway.old.told.held ≡ [] }
+    requires anew { IsMadeAnew gateway.old }
 {
     let mut carrier = Carrier::new(alloc, chores.first(), log_drops)?;
     let carried = carrier.carry(&mut chores, &mut devices, gateway);
