@@ -70,7 +70,7 @@ module _ {D : Type 0} (honest : D → Type 0) (moment : D → ℕ) (left : D →
 
   -- A whole run, over a gateway that rests in its life, is as one of the edge over the events of its turns: a stop in
   -- it or after it is the end of the life, and unless the gateway has fallen it rests again. The answers by which the
-  -- devices were handed packets are the first of those that are given out.
+  -- devices were handed packets are the first of those that count as given out.
   abbrev pub CarryRunsAreLives : Type 0
   CarryRunsAreLives = (config : Config) (entry : D) (opened_at : ℕ) (begun old new : Kept D)
       (events : List Event) (given : List (ℕ × Answer)) (ended : Result (Unit {0}) EdgeFault)

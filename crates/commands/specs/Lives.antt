@@ -51,7 +51,7 @@ module _ {C D : Type 0} (honest : D → Type 0) (moment : D → ℕ) (by_crash :
     pub serves : EdgeRuns honest moment by_crash seen config entry opened_at begun visit.start new
         events answered (events_in (given visit.meets.turns)) (taken visit.meets.turns)
     -- A stop since a turn began, and before the next one did: each answer counts as given out that the client had taken
-    -- behind the turn.
+    -- by the end of the turn.
     pub stops : (before : List Turn) (turn : Turn) (after : List Turn)
         → visit.meets.turns ≡ before ++ turn ∷ after
         → EdgeStops honest moment by_crash seen config entry opened_at begun visit.start

@@ -21,10 +21,10 @@ use gateway::laws::lives_are_the_models;
 use packet::Bounds;
 use std::alloc::Global;
 
-/// Files may be such as the next gateway may find. Then they still are behind an opening of the directory, whether it has
-/// prepared them (`prepared`) or has failed (`left`). What a crash leaves of the disk that it makes of them is then what
-/// `open_over_in_lives` asks for, behind earlier lives. Of files of which no earlier life is known that holds as they
-/// read, if both are whole and synced, and stand for a state of this configuration (`read`).
+/// If a crash leaves of two files only what the next gateway may find, it still does so behind an opening of the
+/// directory, which has prepared them (`prepared`) or has failed (`left`). So what a crash leaves of the disk made of
+/// them is what `open_over_in_lives` asks for, behind earlier lives. If no earlier life is known, files are found as
+/// they read, if both are whole and synced, and stand for a state of this configuration (`read`).
 pub fn openings_find<F: DiskFile>(file: &F)
     ensures { (config : Config) → OpeningsFind F.honest F.holds F.leaves config F.lacks_space }
 {

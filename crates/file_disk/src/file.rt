@@ -17,7 +17,7 @@ pub trait DiskFile {
     ghost holds: { Self → List ℕ };
 
     /// What a crash now may leave of it. What a stop within a call leaves, a crash could leave before that call, or may
-    /// leave behind it.
+    /// leave behind it, however it ends.
     ghost leaves: { Self → List ℕ → Type 0 };
 
     /// Its name leads to it.

@@ -116,9 +116,9 @@ pub fn rests_in_lives<D: Disk + Drop>(gateway: &Gateway<D>)
 }
 
 /// Takes events (`Gateway::run`), for a gateway in its life, whatever it holds. After Ok, or any fault but `Device`, it
-/// goes on in its life, with these answers given out too; with `Device` that ends, with these given out. A stop within it
-/// ends the life: the events that it took count as taken, and the answers given out before as given out. One that
-/// rested, and ends well, rests again.
+/// goes on in its life, with these answers given out too; with `Device` that ends, with these given out. A stop within
+/// the run ends the life: the events that the run took count as taken, and the answers given out before it as given out.
+/// A gateway that rested rests again after Ok.
 ///
 /// # Errors
 ///
@@ -176,12 +176,13 @@ pub fn compact_in_lives<D: Disk + Drop>(gateway: &mut Gateway<D>) -> Result<(), 
     gateway.compact()
 }
 
-/// Between two calls a stop is the end of a life. What the calls of a gateway promise leads on in its life, or to its end:
-/// `offer`, `take_packet` and `take_event` (`takes`), `flush` and `settle` (`syncs`), and the calls of `running`. What
-/// these carry on goes in at `carries` (`PutsBehind`, `Proceeds`). One that fails (`FailsBehind`, `Fails`) gives, at the
-/// run that `IsInLife` has, what `ends` and `stands` take. A stop within a call is the end of the life (`SafeWithin`),
-/// also within a run of events that begins while answers are held (`SafeThrough`). A held answer counts as given out once
-/// `flush` or `settle` has ended well, and not before, also if it was told in place.
+/// Between two calls a stop is the end of a life (`between`). What the calls of a gateway promise leads on in its life,
+/// or to its end: `offer`, `take_packet` and `take_event` (`takes`), `flush` and `settle` (`syncs`), and the calls of
+/// `running`. The field `carries` of `PutsBehind` and `Proceeds` is what `carries` takes. If such a call fails,
+/// `breaks` of `FailsBehind` and `Fails`, for the run in `IsInLife`, gives what `ends` takes and, unless it is Device,
+/// what `stands` takes. A stop within a call ends the life (`safe`, from `SafeWithin`), also within a run of events
+/// that begins while answers are held (`SafeThrough`). A held answer counts as given out once `flush` or `settle` has
+/// ended well, and not before, also if it was told in place.
 pub fn calls_are_lives<D: Disk>(_: &D)
     ensures { CallsAreLives D.honest D.moment D.left D.seen D.failed }
 {}

@@ -50,8 +50,8 @@ module _ {D : Type 0} (honest : D → Type 0) (moment : D → ℕ) (left : D →
       → EdgeRuns config entry opened_at begun old new events given read sent
 
   -- The gateway's life had come to `events` and `given`, and the edge took it from `old` by `now` to `later`. When it was
-  -- at `now`, the first of the events so far were taken, and these bytes were sent, or were sent with the turn that
-  -- began then. When it was at `later`, the first of those were taken that were read by then.
+  -- at `now`, the first of the events so far were taken. These bytes were sent by then, or with the turn that began
+  -- then. When it was at `later`, the first of those were taken that were read by then.
   pub record EdgeStops (config : Config) (entry : D) (opened_at : ℕ) (begun old now later : Kept D)
       (events : List Event) (given : List (ℕ × Answer)) (so_far read : List Event)
       (sent : List ℕ) : Type 0 where

@@ -140,7 +140,7 @@ module _ {D : Type 0} (honest : D → Type 0) (moment : D → ℕ) (left : D →
     pub judged : List Judged
     pub are_judged : AreJudged old.told.config front judged
     pub reached : Reached old.told later.told judged
-    -- they are a beginning of the answers' frames
+    -- these bytes are a beginning of the frames of their answers
     pub unsent : List ℕ
     pub begins : sent ++ unsent ≡ frames (replies old.told judged)
     pub since : (n : ℕ) → n ≤ length front
@@ -149,9 +149,10 @@ module _ {D : Type 0} (honest : D → Type 0) (moment : D → ℕ) (left : D →
         (IsSafe old.told.config old.told.state front n)
     pub configured : LeavesOnly moment left now.disk later.disk (IsConfigured old.told.config)
 
-  -- A run came by `now`: it had taken the first of the events so far, and these bytes, which are sent from then on at
-  -- the latest, are a beginning of their answers' frames. Then it came by `later`, when it had taken the first of these
-  -- events. Of an honest disk, where nothing was held at the entry, no crash between the two loses what the bytes answer.
+  -- A run came by `now`: it had taken the first of the events so far, and these bytes, which were sent by then or with
+  -- the turn that began then, are a beginning of their answers' frames. Then it came by `later`, when it had taken the
+  -- first of these events. Of an honest disk, where nothing was held at the entry, no crash between the two loses what
+  -- the bytes answer.
   pub record ComesBy (so_far events : List Event) (sent : List ℕ) : Type 0 where
     pub until : Fares honest moment left old now so_far sent
     pub since : IsAtRest honest old → Preserves events sent
@@ -164,8 +165,8 @@ module _ {D : Type 0} (honest : D → Type 0) (moment : D → ℕ) (left : D →
     pub by : List Turn → Kept D
     pub first : by [] ≡ old
     pub last : by turns ≡ new
-    -- As a turn begins, the first of the events are taken that were given before it. What the peer has taken behind it
-    -- is a beginning of their answers' frames. A crash from then on, up to the next turn or the end, loses nothing that
+    -- As a turn begins, the first of the events are taken that were given before it. What the peer has taken by its end
+    -- is a beginning of their answers' frames. A crash since it began, up to the next turn or the end, loses nothing that
     -- these answer, and leaves nothing of an event that is given later.
     pub each : (before : List Turn) (turn : Turn) (after : List Turn)
         → turns ≡ before ++ turn ∷ after

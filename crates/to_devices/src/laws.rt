@@ -7,7 +7,7 @@ pub fn open_comes_right()
     ensures { OpenComesRight }
 {}
 
-/// If the same bytes are the frames of these answers and of those, both let out the same packets.
+/// If the same bytes are the frames of two lists of answers, both let out the same packets, by the same headers.
 pub fn leaves_alike()
     ensures { LeavesAlike }
 {}
